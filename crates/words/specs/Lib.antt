@@ -1,0 +1,5 @@
+pub mod Limits
+pub mod Lent
+pub mod Outcome
+pub mod Numbers
+pub mod laws

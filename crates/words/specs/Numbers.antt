@@ -1,0 +1,44 @@
+-- The numbers given back, and their places. 0 is accepted or built; 1, 8, 9 and 10 are said before a walk or a build begins;
+-- 5 is the allowance's, and no pass's.
+use Prim.Native.Nat.{ℕ}
+
+-- why a pass is refused
+pub data Why : Type 0 where
+  unparseable : ℕ → Why
+  tooShort : ℕ → Why
+  misfit : Why
+  noFrame : Why
+  noEntry : Why
+
+unfoldable pub number : Why → ℕ
+number (unparseable p) = 2
+number (tooShort p) = 3
+number misfit = 4
+number noFrame = 6
+number noEntry = 7
+
+unfoldable pub place : Why → ℕ
+place (unparseable p) = p
+place (tooShort p) = p
+place misfit = 0
+place noFrame = 0
+place noEntry = 0
+
+-- why a build is refused
+pub data Fault : Type 0 where
+  collides : Fault
+  noNode : Fault
+  noEdge : Fault
+  sixthReduce : Fault
+  badCopy : Fault
+
+unfoldable pub faultNumber : Fault → ℕ
+faultNumber collides = 11
+faultNumber noNode = 12
+faultNumber noEdge = 13
+faultNumber sixthReduce = 14
+faultNumber badCopy = 16
+
+unfoldable pub numbering : Unit {0}
+unfolding number place faultNumber
+numbering = tt

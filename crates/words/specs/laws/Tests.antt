@@ -1,0 +1,50 @@
+-- Tests, and what follows from one that passed or failed.
+use mathlib.Core.Path.{_≡_, refl, sym, _∙_}
+use mathlib.Core.Bool.{Bool, true, false, false≢true, not, _&&_, and-eq-true-iff}
+use mathlib.Core.List.{List, [], _∷_}
+use Prim.Native.Nat.{ℕ, zero, suc}
+use lib.Dec.{eqb, ltb, leb}
+use borrow.Author.Tests.{lt-ltb, le-ltb, le-leb, lt-leb, eq-eqb, ne-eqb, eqb-true, not-true, not-false}
+use Rattle.words.specs.Outcome.{pick, sameWords}
+
+-- a test's value from the fact that a branch left
+pub ruleset tests = (lt-ltb, le-ltb, le-leb, lt-leb, eq-eqb, ne-eqb)
+
+-- `if !f(x)`, taken and left, in terms of the definition that f's contract names
+pub failed : {b s : Bool} → b ≡ s → not b ≡ true → s ≡ false
+failed {b} e h = sym e ∙ not-true b h
+
+pub passed : {b s : Bool} → b ≡ s → not b ≡ false → s ≡ true
+passed {b} e h = sym e ∙ not-false b h
+
+-- the parts of a chain
+pub and-l : (a b : Bool) → a && b ≡ true → a ≡ true
+and-l a b h = and-eq-true-iff a b .0 h .0
+
+pub and-r : (a b : Bool) → a && b ≡ true → b ≡ true
+and-r a b h = and-eq-true-iff a b .0 h .1
+
+-- a choice by a test, by its cases
+pub by-test : {A : Type 0} (P : A → Type 0) (b : Bool) {x y : A} → (b ≡ true → P x) → (b ≡ false → P y) → P (pick b x y)
+by-test P true h k = h refl
+by-test P false h k = k refl
+
+-- two tests that pass together are one
+pub same-test : (a b : Bool) → (a ≡ true → b ≡ true) → (b ≡ true → a ≡ true) → a ≡ b
+same-test true b f g = sym (f refl)
+same-test false true f g = g refl
+same-test false false f g = refl
+
+pub sameWords-refl : (xs : List ℕ) → sameWords xs xs ≡ true
+unfolding sameWords
+sameWords-refl [] = refl
+sameWords-refl (x ∷ xs) = rw (eq-eqb x x refl) (sameWords-refl xs)
+
+pub sameWords-true : (xs ys : List ℕ) → sameWords xs ys ≡ true → xs ≡ ys
+unfolding sameWords
+sameWords-true [] [] e = refl
+sameWords-true [] (y ∷ ys) e = absurd (false≢true e)
+sameWords-true (x ∷ xs) [] e = absurd (false≢true e)
+sameWords-true (x ∷ xs) (y ∷ ys) e =
+    let h = and-eq-true-iff (eqb x y) (sameWords xs ys) .0 e in
+    cc (eqb-true x y (h .0), sameWords-true xs ys (h .1))
