@@ -1,2 +1,2 @@
 pub mod Entry
-pub mod Sheet
+pub mod laws

@@ -1,0 +1,160 @@
+-- Rows for what the starred ones leave open, and what a build gives back, word for word.
+use mathlib.Core.Path.{_≡_, refl}
+use mathlib.Core.Bool.{Bool, true, false, _&&_}
+use mathlib.Core.List.{List, [], _∷_, _++_}
+use Prim.Native.Nat.{ℕ, zero, suc, _+_, _*_}
+use lib.Dec.{eqb}
+use lib.ListN.{length, take, drop, replicate}
+use Rattle.words.specs.Lent.{zeros, padded}
+use Rattle.words.specs.Outcome.{sameWords}
+use Rattle.rules.specs.Rules.{Stretch}
+use Rattle.rules.specs.Sheet.{words-S, words-S10, words-T, words-U, words-V, words-W}
+use Rattle.rows.specs.Rows.{Edge, edgeOf, edgesOf, edgeWords}
+use Rattle.rows.specs.Sheet.{edge, five, nodes-S, edges-S, tables}
+use Rattle.desk.specs.Entry.{bodyGives, Built, buildGives, Asked, Lent, Parsed, parseGives, verifyGives}
+use Rattle.desk.specs.laws.Starred.{Row, parses, checks, row, ample, every, meets, opening}
+
+abbrev lent : ℕ → ℕ → ℕ → Lent
+lent f l w = record { frames = f; list = l; work = w }
+
+-- the ten-pass sentence
+abbrev ten : List ℕ
+ten = 1 ∷ 5 ∷ 10 ∷ 7 ∷ 11 ∷ 6 ∷ []
+
+-- sets on which the Rust accepts what it should not, or panics
+set-1 : List ℕ
+set-1 = 2 ∷ 1 ∷ 1 ∷ 4 ∷ 3 ∷ 1 ∷ 1 ∷ 2 ∷ 4 ∷ 1 ∷ 0 ∷ 10 ∷ 2 ∷ 2 ∷ 0 ∷ 11 ∷ 1 ∷ 3 ∷ []
+
+set-2 : List ℕ
+set-2 = 2 ∷ 1 ∷ 1 ∷ 4 ∷ 3 ∷ 1 ∷ 1 ∷ 2 ∷ 4 ∷ 2 ∷ 0 ∷ 14 ∷ 1 ∷ 3 ∷ 4 ∷ 1 ∷ 0 ∷ 12 ∷ []
+
+set-3 : List ℕ
+set-3 = 2 ∷ 1 ∷ 0 ∷ 10 ∷ 2 ∷ 1 ∷ 1 ∷ 4 ∷ 2 ∷ 2 ∷ 1 ∷ 2 ∷ 1 ∷ 2 ∷ 3 ∷ 1 ∷ 1 ∷ 4 ∷ 3 ∷ 2 ∷ 1 ∷ 3 ∷ 0 ∷ 10 ∷ []
+
+set-4 : List ℕ
+set-4 = 5 ∷ 1 ∷ 0 ∷ 10 ∷ 2 ∷ 1 ∷ 1 ∷ 5 ∷ 3 ∷ 1 ∷ 1 ∷ 2 ∷ 2 ∷ 2 ∷ 1 ∷ 2 ∷ 1 ∷ 3 ∷ []
+
+more : List Row
+more = row words-S (1 ∷ 5 ∷ 6 ∷ []) 2 2 [] 3
+    -- allowance, frame room, list room; the shorter of list and work is the list room
+    ∷ parses words-S ten 9 ample 5 0 [] 9
+    ∷ parses words-S ten 10 ample 0 0 (1 ∷ 2 ∷ 7 ∷ []) 10
+    ∷ parses words-S ten 0 ample 5 0 [] 0
+    ∷ parses words-S ten 10 (lent 0 3 3) 6 0 [] 2
+    ∷ parses words-S ten 10 (lent 1 3 3) 0 0 (1 ∷ 2 ∷ 7 ∷ []) 10
+    ∷ parses words-S ten 10 (lent 1 2 9) 7 0 [] 10
+    ∷ parses words-S ten 10 (lent 1 9 2) 7 0 [] 10
+    -- a copied variable edge; the later conversion first; the slot of a conversion; one not tried while tokens are left
+    ∷ row words-U (1 ∷ 13 ∷ 12 ∷ []) 0 0 (2 ∷ 3 ∷ 1 ∷ 4 ∷ []) 6
+    ∷ row words-V (1 ∷ 31 ∷ 30 ∷ []) 0 0 (1 ∷ 3 ∷ 2 ∷ 4 ∷ []) 5
+    ∷ row words-W (21 ∷ 30 ∷ []) 0 0 (1 ∷ 3 ∷ []) 2
+    ∷ row words-S (3 ∷ 13 ∷ 8 ∷ []) 3 2 [] 4
+    -- the provable typecode is read as the logic one, and no other is
+    ∷ row words-S (2 ∷ 10 ∷ []) 0 0 (1 ∷ []) 2
+    ∷ row words-S (4 ∷ 10 ∷ []) 2 1 [] 2
+    -- tokens outside 1 to 65,535 match nothing
+    ∷ row words-S (1 ∷ 0 ∷ []) 2 1 [] 1
+    ∷ row words-S (1 ∷ 65546 ∷ []) 2 1 [] 1
+    -- where the Rust accepts or panics
+    ∷ row set-1 (2 ∷ 11 ∷ 10 ∷ []) 4 0 [] 4
+    ∷ row set-2 (4 ∷ 14 ∷ 12 ∷ []) 4 0 [] 4
+    ∷ row set-3 (3 ∷ 10 ∷ 10 ∷ []) 4 0 [] 4
+    ∷ row set-4 (2 ∷ 10 ∷ 10 ∷ []) 4 0 [] 5
+    -- the check alone
+    ∷ checks words-S ten (1 ∷ 2 ∷ 7 ∷ []) 0
+    ∷ checks words-S ten (2 ∷ 1 ∷ 7 ∷ []) 4
+    ∷ checks words-S ten [] 4
+    ∷ checks words-S (1 ∷ 13 ∷ 8 ∷ 13 ∷ []) (4 ∷ 4 ∷ 8 ∷ []) 4
+    ∷ checks words-S (1 ∷ 10 ∷ []) (0 ∷ []) 4
+    ∷ checks words-S (1 ∷ 10 ∷ []) (10 ∷ []) 4
+    ∷ checks words-S (1 ∷ []) (1 ∷ []) 1
+    ∷ []
+
+more-rows : every more ≡ true
+unfolding more set-1 set-2 set-3 set-4 opening
+more-rows = refl
+
+-- ---- the order of refusals, by words that are bad in several ways
+
+-- rules, nodes, edges, tokens
+abbrev asked : List ℕ → List ℕ → List ℕ → List ℕ → Asked
+asked rs ns es ts = record { provable = 1; logic = 2; rules = rs; nodes = ns; edges = es; tokens = ts }
+
+first : Asked → ℕ → ℕ → Bool
+first q number passes = meets ample number 0 [] passes (parseGives q 100 ample)
+
+orders : Bool
+orders = first (asked (7 ∷ []) [] (1 ∷ []) []) 10 0 && first (asked [] [] (1 ∷ []) []) 8 0 && first (asked [] (0 ∷ []) [] []) 1 0
+    && first (asked [] (0 ∷ []) [] (replicate 4098 1)) 9 0 && eqb (parseGives (asked [] (0 ∷ []) [] (replicate 4097 1)) 0 ample .number) 5
+
+orders-hold : orders ≡ true
+unfolding orders first opening
+orders-hold = refl
+
+-- 10, 1, 9, 7, 4
+verify-orders : (verifyGives 1 1 [] [] (1 ∷ []) 0 .number ≡ 10) × (verifyGives 1 2 [] [] (1 ∷ []) 0 .number ≡ 1)
+    × (verifyGives 1 2 [] (replicate 4098 1) (1 ∷ []) 0 .number ≡ 9) × (verifyGives 1 2 [] (1 ∷ 1 ∷ []) (1 ∷ []) 0 .number ≡ 7)
+    × (verifyGives 1 2 [] (1 ∷ 1 ∷ []) (1 ∷ []) 1 .number ≡ 4)
+unfolding opening
+verify-orders = (refl, refl, refl, refl, refl)
+
+-- ---- builds, word for word
+
+-- set S whole, in slices a little longer than it needs
+built-S : buildGives 1 2 words-S 19 321
+    ≡ record { number = 0; nodes = 17; edges = 19; node-words = padded nodes-S 19; edge-words = padded (edgeWords edges-S) 321 }
+unfolding opening tables
+built-S = refl
+
+-- with rule 10: 20 nodes, 23 edges, and node 17's rows
+leaving : ℕ → List Edge → List Edge
+leaving n [] = []
+leaving n (e ∷ es) = elim (eqb (e .from) n) [ true ↦ e ∷ leaving n es | false ↦ leaving n es ]
+
+record Shape : Type 0 where
+  number : ℕ
+  nodes : ℕ
+  edges : ℕ
+  of-17 : List Edge
+
+shape : Built → Shape
+shape b = record { number = b .number; nodes = b .nodes; edges = b .edges; of-17 = leaving 17 (edgesOf (b .edge-words)) }
+
+built-S10 : shape (buildGives 1 2 words-S10 20 368)
+    ≡ record { number = 0; nodes = 20; edges = 23; of-17 = edge 17 0 15 18 [] ∷ edge 17 0 8 13 five ∷ edge 17 0 9 15 five ∷ [] }
+unfolding shape leaving opening tables
+built-S10 = refl
+
+-- conversions 40 to 41, 41 to 42 and so on, the last link first
+chain : ℕ → List ℕ
+chain zero = []
+chain (suc n) = (41 + n) ∷ 1 ∷ 1 ∷ (40 + n) ∷ chain n
+
+-- number, counts
+gives : List ℕ → ℕ → ℕ → ℕ × ℕ × ℕ
+gives rules nodes edges = let b = buildGives 1 2 rules nodes edges in (b .number, b .nodes, b .edges)
+
+chains : (gives (2 ∷ 2 ∷ 0 ∷ 31 ∷ 1 ∷ 45 ∷ chain 5) 9 160 ≡ (0, 3, 7)) × (gives (2 ∷ 2 ∷ 0 ∷ 31 ∷ 1 ∷ 46 ∷ chain 6) 9 160 ≡ (14, 0, 0))
+unfolding chain gives opening
+chains = (refl, refl)
+
+-- exact room builds; one node less is 12, one word of the edges less is 13; an empty table is node 0 alone, which needs room too
+rooms : (gives words-S 17 304 ≡ (0, 17, 19)) × (gives words-S 16 304 ≡ (12, 0, 0)) × (gives words-S 17 303 ≡ (13, 0, 0)) × (gives [] 1 0 ≡ (0, 1, 0)) × (gives [] 0 0 ≡ (12, 0, 0))
+unfolding gives opening
+rooms = (refl, refl, refl, refl, refl)
+
+-- a refused build leaves zeros: bad rules, bodies that collide
+zeroed : (buildGives 1 2 (1 ∷ []) 2 3 ≡ record { number = 10; nodes = 0; edges = 0; node-words = zeros 2; edge-words = zeros 3 })
+    × (buildGives 1 2 (2 ∷ 1 ∷ 0 ∷ 10 ∷ 2 ∷ 1 ∷ 0 ∷ 10 ∷ []) 4 40 ≡ record { number = 11; nodes = 0; edges = 0; node-words = zeros 4; edge-words = zeros 40 })
+unfolding opening
+zeroed = (refl, refl)
+
+-- ---- bodies
+
+stretch : ℕ → ℕ → Stretch
+stretch a n = record { start = a; length = n }
+
+bodies : (bodyGives 1 2 words-S 1 ≡ stretch 2 2) × (bodyGives 1 2 words-S 7 ≡ stretch 28 10) × (bodyGives 1 2 words-S 9 ≡ stretch 48 6) × (bodyGives 1 2 words-S 0 ≡ stretch 0 0)
+    × (bodyGives 1 2 words-S 10 ≡ stretch 0 0) × (bodyGives 2 1 words-S 1 ≡ stretch 0 0)
+unfolding stretch opening
+bodies = (refl, refl, refl, refl, refl, refl)

@@ -1,0 +1,31 @@
+-- What the number of the first failing demand says.
+use mathlib.Core.Path.{_≡_, refl, sym, _∙_}
+use mathlib.Core.Bool.{Bool, true, false, false≢true}
+use mathlib.Core.List.{List, [], _∷_}
+use mathlib.Core.Logic.{_≢_, _↔_}
+use Prim.Native.Nat.{ℕ, zero, suc, _≤_}
+use native.Mathlib.Omega.{arith}
+use Rattle.words.specs.Outcome.{Demand, demand, firstFault}
+
+-- the first demand passes: the others decide
+pub met : {b : Bool} → b ≡ true → (k : ℕ) (ds : List Demand) → firstFault (demand b k ∷ ds) ≡ firstFault ds
+unfolding firstFault
+met e k ds = rw e
+
+-- it fails: its number is answered
+pub unmet : {b : Bool} → b ≡ false → (k : ℕ) (ds : List Demand) → firstFault (demand b k ∷ ds) ≡ k
+unfolding firstFault
+unmet e k ds = rw e
+
+-- no fault: the first demand passed, and so did the others
+pub record Clear (b : Bool) (ds : List Demand) : Type 0 where
+  pub passed : b ≡ true
+  pub others : firstFault ds ≡ 0
+
+clear-by : (b : Bool) (k : ℕ) (ds : List Demand) → k ≢ 0 → firstFault (demand b k ∷ ds) ≡ 0 → Clear b ds
+unfolding firstFault
+clear-by true k ds z h = record { passed = refl; others = h }
+clear-by false k ds z h = absurd (z h)
+
+pub clear : (b : Bool) (k : ℕ) (ds : List Demand) → 1 ≤ k → firstFault (demand b k ∷ ds) ≡ 0 → Clear b ds
+clear b k ds z h = clear-by b k ds (λ e. omega arith) h
