@@ -13,6 +13,7 @@ use Rattle.rows.specs.Rows.{edgesOf, edgeWords, tablesGood, tabling}
 use Rattle.tree.specs.Grow.{Grown, grow, growing}
 use Rattle.tree.specs.Grow as tree
 use Rattle.formula.specs.Check.{check}
+use Rattle.formula.specs.Meaning.{Tree}
 use Rattle.walk.specs.Walk.{Tables, tablesOf, Walked, wantedOf, walk, walking}
 use Rattle.walk.specs.Walk as passes
 
@@ -151,6 +152,13 @@ verifyGives provable logic rules tokens list work = record {
   passes = 0;
   work-words = zeros work;
 }
+
+-- ---- what an accepted list means
+
+-- a well typed tree of the stated typecode, the logic one where the provable one is stated, that spells the statement token for token
+abbrev pub Means : List Rule → ℕ → ℕ → List ℕ → List ℕ → Type 0
+Means R provable logic [] l = ⊥
+Means R provable logic (t ∷ xs) l = Tree R (wantedOf provable logic t) xs l
 
 unfoldable pub entering : Unit {0}
 unfolding firstFault numbering reading tabling growing walking bodyGives builtBy buildAfter buildGives parsed walkAfter walkOf parseGives verifyGives

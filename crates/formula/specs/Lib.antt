@@ -1,3 +1,4 @@
 pub mod Meaning
 pub mod Check
 pub mod Reducing
+pub mod laws

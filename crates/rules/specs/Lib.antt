@@ -1,2 +1,3 @@
 pub mod Rules
 pub mod Sheet
+pub mod laws

@@ -1,4 +1,8 @@
-// The limits, and one type for each kind of number.
+// The limits, one type for each kind of number, and writing to a lent slice.
+ghost use mathlib.Core.Path.{_≡_};
+ghost use Prim.Native.Nat.{_≤_, _<_};
+ghost use lib.ListN.{length};
+ghost use Rattle.words.specs.Lent.{zeros, padded, clearedFrom, inserted};
 
 // Symbols and typecodes are 1 to this.
 pub const MOST_SYMBOL: u32 = 65535;
@@ -24,3 +28,48 @@ pub struct RuleNo(pub u32);
 pub struct NodeNo(pub u32);
 
 pub struct SymbolNo(pub u32);
+
+// Every word 0.
+pub fn clear(s: &mut [u32])
+    ensures { λ _. ⌜ now (s .exit) ≡ zeros (length (now (s .entry))) ⌝ }
+{
+    let mut i = 0;
+    while i < s.len() {
+        s[i] = 0;
+        i += 1;
+    }
+}
+
+// The words from `at` on 0, those before it as they were.
+pub fn clear_from(s: &mut [u32], at: usize)
+    requires { ⌜ at ≤ length (now s) ⌝ }
+    ensures { λ _. ⌜ now (s .exit) ≡ clearedFrom (now (s .entry)) at ⌝ }
+{
+    clear(&mut s[at..]);
+}
+
+// The words of `from`, then zeros.
+pub fn put(s: &mut [u32], from: &[u32])
+    requires { ⌜ length (now from) ≤ length (now s) ⌝ }
+    ensures { λ _. ⌜ now (s .exit) ≡ padded (now (from .entry)) (length (now (s .entry))) ⌝ }
+{
+    let mut i = 0;
+    while i < from.len() {
+        s[i] = from[i];
+        i += 1;
+    }
+    clear(&mut s[i..]);
+}
+
+// `x` before word `p` of the first `n`, which move up by one from there on.
+pub fn insert(s: &mut [u32], n: usize, p: usize, x: u32)
+    requires { ⌜ (p ≤ n) × (n < length (now s)) ⌝ }
+    ensures { λ _. ⌜ now (s .exit) ≡ inserted (now (s .entry)) n p x ⌝ }
+{
+    let mut k = n;
+    while p < k {
+        s[k] = s[k - 1];
+        k -= 1;
+    }
+    s[p] = x;
+}

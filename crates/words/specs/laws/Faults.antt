@@ -29,3 +29,18 @@ clear-by false k ds z h = absurd (z h)
 
 pub clear : (b : Bool) (k : ℕ) (ds : List Demand) → 1 ≤ k → firstFault (demand b k ∷ ds) ≡ 0 → Clear b ds
 clear b k ds z h = clear-by b k ds (λ e. omega arith) h
+
+-- whatever holds of 0 and of each demand's number holds of the answer
+pub data Each (P : ℕ → Type 0) : List Demand → Type 0 where
+  none-left : Each P []
+  one-more : {b : Bool} {k : ℕ} {ds : List Demand} → P k → Each P ds → Each P (demand b k ∷ ds)
+
+fault-by : (P : ℕ → Type 0) (b : Bool) (k : ℕ) (ds : List Demand) → P k → P (firstFault ds) → P (firstFault (demand b k ∷ ds))
+unfolding firstFault
+fault-by P true k ds h r = r
+fault-by P false k ds h r = h
+
+pub fault-is : (P : ℕ → Type 0) → P 0 → {ds : List Demand} → Each P ds → P (firstFault ds)
+unfolding firstFault
+fault-is P z none-left = z
+fault-is P z (one-more {b} {k} {ds} h r) = fault-by P b k ds h (fault-is P z r)

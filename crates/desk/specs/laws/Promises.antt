@@ -1,0 +1,371 @@
+-- The promises, about what the entry points give back, for any words at all.
+use mathlib.Core.Path.{_≡_, refl, sym, _∙_, ap}
+use mathlib.Core.Bool.{Bool, true, false, false≢true, not}
+use mathlib.Core.List.{List, [], _∷_, _++_}
+use mathlib.Core.Logic.{_≢_, _↔_}
+use Prim.Native.Nat.{ℕ, zero, suc, _+_, _*_, _-_, _/_, _≤_, _<_}
+use native.Mathlib.Nat.{sub-zero}
+use native.Mathlib.Omega.{arith}
+use lib.Dec.{leb, ltb}
+use lib.ListN.{length, getD, take, drop}
+use lib.Seq.{take-at}
+use borrow.Author.Tests.{leb-true, leb-false, ltb-false, not-true, le-ltb}
+use Rattle.words.specs.Limits.{mostTokens, mostNodes, mostEdges, rowWidth}
+use Rattle.words.specs.Lent.{zeros, padded}
+use Rattle.words.specs.Outcome.{Res, ok, no, Demand, demand, firstFault, pick}
+use Rattle.words.specs.Numbers.{Fault, collides, noNode, noEdge, sixthReduce, badCopy, faultNumber}
+use Rattle.words.specs.laws.Tests.{by-test}
+use Rattle.words.specs.laws.Faults.{met, unmet, Clear, clear, Each, none-left, one-more, fault-is}
+use Rattle.rules.specs.Rules.{Rule, theRules, rulesGood, Stretch}
+use Rattle.rows.specs.Rows.{edgesOf, edgeWords, tablesGood}
+use Rattle.rows.specs.laws.Fair.{tables-fair, root-level, edge-fair}
+use Rattle.rows.specs.laws.Words.{edgeWords-length}
+use Rattle.tree.specs.Grow.{Grown, grow}
+use Rattle.tree.specs.laws.Built.{built-tables-pass}
+use Rattle.formula.specs.Check.{check}
+use Rattle.formula.specs.Meaning.{Tree}
+use Rattle.formula.specs.laws.Check.{check-sound, check-complete, unique}
+use Rattle.walk.specs.Walk.{Tables, tablesOf, Walked, wantedOf, walk}
+use Rattle.walk.specs.Walk as passes
+use Rattle.walk.specs.laws.Mono.{More, Roomy, walk-mono}
+use Rattle.walk.specs.laws.View.{Fair, Slim}
+use Rattle.walk.specs.laws.Bound.{walk-bound}
+use Rattle.walk.specs.laws.Frames.{walk-frames}
+use Rattle.walk.specs.laws.Length.{walk-list}
+use Rattle.walk.specs.laws.Sound.{walk-checked, walk-unlisted, walk-numbers}
+use Rattle.desk.specs.Entry.{lesser, bodyGives, Built, notBuilt, builtBy, buildAfter, buildRoom, buildGives, Parsed, Lent, walkRoom, parsed, theTables, Asked, parseDemands, walkAfter, walkOf, parseGives, verifyDemands, Verified, verifyGives, Means}
+
+-- ---- determined: what an entry point gives back is a value of its definition, so two results that meet it are one, every lent word included
+
+pub determined : {A : Type 0} {d x y : A} → x ≡ d → y ≡ d → x ≡ y
+determined e f = e ∙ sym f
+
+-- ---- what the demands before a walk say
+
+pub record Passed (q : Asked) : Type 0 where
+  pub rules : rulesGood (q .provable) (q .logic) (q .rules) ≡ true
+  pub tables : tablesGood (length (theRules (q .rules))) (q .nodes) (q .edges) ≡ true
+  pub long : 2 ≤ length (q .tokens)
+  pub short : length (q .tokens) ≤ mostTokens
+
+pub demands-passed : (q : Asked) → firstFault (parseDemands q) ≡ 0 → Passed q
+demands-passed q h =
+    let a = clear _ 10 _ (omega arith) h in
+    let b = clear _ 8 _ (omega arith) (a .others) in
+    let c = clear _ 1 _ (omega arith) (b .others) in
+    let d = clear _ 9 _ (omega arith) (c .others) in
+    record {
+      rules = a .passed;
+      tables = b .passed;
+      long = ltb-false _ _ (not-true _ (c .passed));
+      short = ltb-false _ _ (not-true _ (d .passed));
+    }
+
+-- ---- a parse, by its two ways: a refusal before the walk, or the walk
+
+module _ (q : Asked) where
+  abbrev walked : ℕ → passes.Room → Walked
+  walked a m = walk (theTables (q .rules) (q .nodes) (q .edges)) (q .provable) (q .logic) a m (q .tokens)
+
+  after-by : (P : Walked → Type 0) (a : ℕ) (m : passes.Room) (k : ℕ) → (k ≡ 0 → P (walked a m)) → (k ≢ 0 → P (passes.refused k 0 0))
+      → P (walkAfter q a m k)
+  unfolding walkAfter
+  after-by P a m zero h r = h refl
+  after-by P a m (suc k) h r = r λ e. omega arith
+
+  -- a refusal before the walk is 10, 8, 1 or 9
+  early : (n : ℕ) → n ≢ 10 → n ≢ 8 → n ≢ 1 → n ≢ 9 → firstFault (parseDemands q) ≢ 0 → firstFault (parseDemands q) ≢ n
+  early n a b c d = fault-is (λ k. k ≢ 0 → k ≢ n) (λ z. absurd (z refl))
+      (one-more (λ z e. a (sym e)) (one-more (λ z e. b (sym e)) (one-more (λ z e. c (sym e)) (one-more (λ z e. d (sym e)) none-left))))
+
+  -- a fact of the walk's number, and of no refusal before it
+  number-is : (n a : ℕ) (m : passes.Room) → n ≢ 10 → n ≢ 8 → n ≢ 1 → n ≢ 9 → (Passed q → walked a m .number ≢ n) → walkOf q a m .number ≢ n
+  unfolding walkOf
+  number-is n a m h₁ h₂ h₃ h₄ h = after-by (λ w. w .number ≢ n) a m (firstFault (parseDemands q)) (λ z. h (demands-passed q z)) (early n h₁ h₂ h₃ h₄)
+
+  -- ---- more-room
+
+  after-mono : (a a′ : ℕ) (m m′ : passes.Room) → More m m′ → a ≤ a′ → (k : ℕ) → Roomy (walkAfter q a m k) → walkAfter q a′ m′ k ≡ walkAfter q a m k
+  unfolding walkAfter
+  after-mono a a′ m m′ h le zero y = walk-mono _ _ _ a a′ m m′ _ h le y
+  after-mono a a′ m m′ h le (suc k) y = refl
+
+  walkOf-mono : (a a′ : ℕ) (m m′ : passes.Room) → More m m′ → a ≤ a′ → Roomy (walkOf q a m) → walkOf q a′ m′ ≡ walkOf q a m
+  unfolding walkOf
+  walkOf-mono a a′ m m′ h le y = after-mono a a′ m m′ h le (firstFault (parseDemands q)) y
+
+-- no slice is shorter
+pub record Wider (s s′ : Lent) : Type 0 where
+  pub frames : s .frames ≤ s′ .frames
+  pub list : s .list ≤ s′ .list
+  pub work : s .work ≤ s′ .work
+
+lesser-le : (a b : ℕ) → (lesser a b ≤ a) × (lesser a b ≤ b)
+lesser-le a b = by-test (λ n. (n ≤ a) × (n ≤ b)) (leb a b) (λ h. (omega arith, leb-true a b h)) λ h. (omega (arith, leb-false a b h), omega arith)
+
+lesser-is : (a b n : ℕ) → n ≤ a → n ≤ b → n ≤ lesser a b
+lesser-is a b n h k = by-test (λ x. n ≤ x) (leb a b) (λ _. h) λ _. k
+
+room-grows : (s s′ : Lent) → Wider s s′ → More (walkRoom s) (walkRoom s′)
+room-grows s s′ w =
+    let h = lesser-le (s .list) (s .work) in
+    record { frames = w .frames; list = lesser-is (s′ .list) (s′ .work) (lesser (s .list) (s .work)) (omega (arith, w .list, h .0)) (omega (arith, w .work, h .1)) }
+
+-- the list that a parse leaves in its slice
+abbrev pub listOf : Parsed → List ℕ
+listOf r = take (r .length) (r .list-words)
+
+list-of : (s : Lent) (w : Walked) → listOf (parsed s w) ≡ w .list
+unfolding parsed
+list-of s w = take-at (w .list) (zeros (s .list - length (w .list))) (length (w .list)) refl
+
+-- the same answer: number, place, list and passes
+pub record Same (x y : Parsed) : Type 0 where
+  pub number : x .number ≡ y .number
+  pub place : x .place ≡ y .place
+  pub length : x .length ≡ y .length
+  pub list : listOf x ≡ listOf y
+  pub passes : x .passes ≡ y .passes
+
+parsed-same : (s s′ : Lent) (w w′ : Walked) → w′ ≡ w → Same (parsed s′ w′) (parsed s w)
+unfolding parsed
+parsed-same s s′ w w′ e = record {
+  number = ap (λ (v : Walked). v .number) e;
+  place = ap (λ (v : Walked). v .place) e;
+  length = ap (λ (v : Walked). length (v .list)) e;
+  list = list-of s′ w′ ∙ ap (λ (v : Walked). v .list) e ∙ sym (list-of s w);
+  passes = ap (λ (v : Walked). v .passes) e;
+}
+
+-- a parse did not run short
+pub record Enough (r : Parsed) : Type 0 where
+  pub passes : r .number ≢ 5
+  pub frames : r .number ≢ 6
+  pub list : r .number ≢ 7
+
+pub more-room : (q : Asked) (a a′ : ℕ) (s s′ : Lent) → a ≤ a′ → Wider s s′ → Enough (parseGives q a s) → Same (parseGives q a′ s′) (parseGives q a s)
+unfolding parseGives parsed
+more-room q a a′ s s′ le w y = parsed-same s s′ _ _
+    (walkOf-mono q a a′ (walkRoom s) (walkRoom s′) (room-grows s s′ w) le (record { passes = y .passes; frames = y .frames; list = y .list }))
+
+-- ---- four-n: n tokens after the typecode; and the rooms that are always enough
+
+tables-ok : (q : Asked) → Passed q → Fair (theTables (q .rules) (q .nodes) (q .edges))
+unfolding tablesOf
+tables-ok q h =
+    let f = tables-fair _ (q .nodes) (q .edges) (h .tables) in
+    record { root = f .root; level = root-level f }
+
+tables-slim : (q : Asked) → Passed q → Slim (theTables (q .rules) (q .nodes) (q .edges))
+unfolding tablesOf
+tables-slim q h n k t e d = edge-fair (tables-fair _ (q .nodes) (q .edges) (h .tables)) n k t e d .few
+
+-- a statement with tokens after its typecode
+by-tokens : (ts : List ℕ) (P : List ℕ → Type 0) → 2 ≤ length ts → ((t : ℕ) (xs : List ℕ) → ts ≡ t ∷ xs → 1 ≤ length xs → P (t ∷ xs)) → P ts
+by-tokens [] P h f = absurd (omega arith)
+by-tokens (t ∷ xs) P h f = f t xs refl (omega arith)
+
+module _ (q : Asked) (a : ℕ) (s : Lent) where
+  abbrev answers : List ℕ → Walked
+  answers ts = walk (theTables (q .rules) (q .nodes) (q .edges)) (q .provable) (q .logic) a (walkRoom s) ts
+
+  pub four-n : 4 * (length (q .tokens) - 1) ≤ a → parseGives q a s .number ≢ 5
+  unfolding parseGives parsed
+  four-n h = number-is q 5 a (walkRoom s) (λ e. omega arith) (λ e. omega arith) (λ e. omega arith) (λ e. omega arith)
+      λ p. by-tokens (q .tokens) (λ ts. answers ts .number ≢ 5) (p .long)
+      λ t xs e l. walk-bound _ (tables-ok q p) _ _ a (walkRoom s) t xs l (omega (arith, ap length e))
+
+  pub frames-enough : length (q .tokens) ≤ s .frames + 2 → parseGives q a s .number ≢ 6
+  unfolding parseGives parsed
+  frames-enough h = number-is q 6 a (walkRoom s) (λ e. omega arith) (λ e. omega arith) (λ e. omega arith) (λ e. omega arith)
+      λ p. by-tokens (q .tokens) (λ ts. answers ts .number ≢ 6) (p .long)
+      λ t xs e l. walk-frames _ (tables-ok q p .root) _ _ a (walkRoom s) t xs (omega (arith, ap length e))
+
+  pub list-enough : 17 * (length (q .tokens) - 1) ≤ s .list → 17 * (length (q .tokens) - 1) ≤ s .work → parseGives q a s .number ≢ 7
+  unfolding parseGives parsed
+  list-enough h k = number-is q 7 a (walkRoom s) (λ e. omega arith) (λ e. omega arith) (λ e. omega arith) (λ e. omega arith)
+      λ p. by-tokens (q .tokens) (λ ts. answers ts .number ≢ 7) (p .long)
+      λ t xs e l. walk-list _ (tables-ok q p) (tables-slim q p) _ _ a (walkRoom s) t xs (lesser-is (s .list) (s .work) (17 * length xs) (omega (arith, ap length e)) (omega (arith, ap length e)))
+
+-- ---- yes-exactly: the check alone says 0 exactly for a list that means the statement
+
+-- what is asked besides
+pub record Asks (provable logic : ℕ) (rules tokens list : List ℕ) (work : ℕ) : Type 0 where
+  pub good : rulesGood provable logic rules ≡ true
+  pub long : 2 ≤ length tokens
+  pub short : length tokens ≤ mostTokens
+  pub room : length list ≤ work
+
+module _ (provable logic : ℕ) (rules tokens list : List ℕ) (work : ℕ) where
+  pub yes-asks : verifyGives provable logic rules tokens list work .number ≡ 0 → Asks provable logic rules tokens list work
+  unfolding verifyGives
+  yes-asks h =
+      let a = clear _ 10 _ (omega arith) h in
+      let b = clear _ 1 _ (omega arith) (a .others) in
+      let c = clear _ 9 _ (omega arith) (b .others) in
+      let d = clear _ 7 _ (omega arith) (c .others) in
+      record {
+        good = a .passed;
+        long = ltb-false _ _ (not-true _ (b .passed));
+        short = ltb-false _ _ (not-true _ (c .passed));
+        room = ltb-false _ _ (not-true _ (d .passed));
+      }
+
+  -- past the other demands the check decides
+  abbrev checked : Bool
+  checked = check (theRules rules) (wantedOf provable logic (getD tokens 0 0)) (drop 1 tokens) list
+
+  past : Asks provable logic rules tokens list work → verifyGives provable logic rules tokens list work .number ≡ firstFault (demand checked 4 ∷ [])
+  unfolding verifyGives
+  past h = met (h .good) 10 _ ∙ met (ap not (le-ltb _ _ (h .long))) 1 _ ∙ met (ap not (le-ltb _ _ (h .short))) 9 _ ∙ met (ap not (le-ltb _ _ (h .room))) 7 _
+
+checked-means : (R : List Rule) (provable logic : ℕ) (tokens list : List ℕ) → 2 ≤ length tokens
+    → (check R (wantedOf provable logic (getD tokens 0 0)) (drop 1 tokens) list ≡ true) ↔ Means R provable logic tokens list
+checked-means R provable logic [] list h = absurd (omega arith)
+checked-means R provable logic (t ∷ xs) list h = (check-sound R _ xs list, check-complete R _ xs list)
+
+none-fails : firstFault [] ≡ 0
+unfolding firstFault
+none-fails = refl
+
+pub yes-exactly : (provable logic : ℕ) (rules tokens list : List ℕ) (work : ℕ) → Asks provable logic rules tokens list work
+    → (verifyGives provable logic rules tokens list work .number ≡ 0) ↔ Means (theRules rules) provable logic tokens list
+yes-exactly provable logic rules tokens list work h =
+    let m = checked-means (theRules rules) provable logic tokens list (h .long) in
+    let p = past provable logic rules tokens list work h in (
+      λ e. m .0 (clear _ 4 [] (omega arith) (sym p ∙ e) .passed),
+      λ t. p ∙ met (m .1 t) 4 [] ∙ none-fails,
+    )
+
+-- ---- one-meaning: a list has at most one typecode and one spelling
+
+pub one-meaning : (R : List Rule) {t t′ : ℕ} {ts ts′ l : List ℕ} → Tree R t ts l → Tree R t′ ts′ l → (t ≡ t′) × (ts ≡ ts′)
+one-meaning R p p′ = unique R p p′
+
+-- ---- accepted-means: what a parse accepts means the statement
+
+accepted-by : (q : Asked) (a : ℕ) (m : passes.Room) → walkOf q a m .number ≡ 0 → Means (theRules (q .rules)) (q .provable) (q .logic) (q .tokens) (walkOf q a m .list)
+unfolding walkOf tablesOf
+accepted-by q a m = after-by q (λ w. w .number ≡ 0 → Means (theRules (q .rules)) (q .provable) (q .logic) (q .tokens) (w .list)) a m (firstFault (parseDemands q))
+    (λ z. by-tokens (q .tokens) (λ ts. walk (theTables (q .rules) (q .nodes) (q .edges)) (q .provable) (q .logic) a m ts .number ≡ 0
+    → Means (theRules (q .rules)) (q .provable) (q .logic) ts (walk (theTables (q .rules) (q .nodes) (q .edges)) (q .provable) (q .logic) a m ts .list)) (demands-passed q z .long)
+    λ t xs _ _ e. check-sound (theRules (q .rules)) _ xs _ (walk-checked (theTables (q .rules) (q .nodes) (q .edges)) _ _ a m t xs e))
+    λ z e. absurd (z e)
+
+pub accepted-means : (q : Asked) (a : ℕ) (s : Lent) → parseGives q a s .number ≡ 0 → Means (theRules (q .rules)) (q .provable) (q .logic) (q .tokens) (listOf (parseGives q a s))
+unfolding parseGives parsed
+accepted-means q a s e = rw (list-of s (walkOf q a (walkRoom s))) (accepted-by q a (walkRoom s) e)
+
+-- ---- refused-zeros: a refusal leaves zeros in every slice lent for writing
+
+unlisted : (q : Asked) (a : ℕ) (m : passes.Room) → walkOf q a m .number ≢ 0 → walkOf q a m .list ≡ []
+unfolding walkOf
+unlisted q a m = after-by q (λ w. w .number ≢ 0 → w .list ≡ []) a m (firstFault (parseDemands q))
+    (λ z. by-tokens (q .tokens) (λ ts. walk (theTables (q .rules) (q .nodes) (q .edges)) (q .provable) (q .logic) a m ts .number ≢ 0
+    → walk (theTables (q .rules) (q .nodes) (q .edges)) (q .provable) (q .logic) a m ts .list ≡ []) (demands-passed q z .long)
+    λ t xs _ _ n. walk-unlisted _ _ _ a m t xs n)
+    λ z n. refl
+
+-- a parse: frame and work slices are zero whatever the answer
+pub record Cleared (s : Lent) (r : Parsed) : Type 0 where
+  pub length : r .length ≡ 0
+  pub frames : r .frame-words ≡ zeros (s .frames)
+  pub list : r .list-words ≡ zeros (s .list)
+  pub work : r .work-words ≡ zeros (s .work)
+
+pub refused-zeros-parse : (q : Asked) (a : ℕ) (s : Lent) → parseGives q a s .number ≢ 0 → Cleared s (parseGives q a s)
+unfolding parseGives parsed
+refused-zeros-parse q a s n =
+    let e = unlisted q a (walkRoom s) n in
+    record { length = ap length e; frames = refl; list = ap (λ (l : List ℕ). padded l (s .list)) e ∙ rw sub-zero; work = refl }
+
+pub record Empty (nodes edges : ℕ) (r : Built) : Type 0 where
+  pub node-count : r .nodes ≡ 0
+  pub edge-count : r .edges ≡ 0
+  pub node-zeros : r .node-words ≡ zeros nodes
+  pub edge-zeros : r .edge-words ≡ zeros edges
+
+empty-by : (nodes edges k : ℕ) → Empty nodes edges (notBuilt k nodes edges)
+empty-by nodes edges k = record { node-count = refl; edge-count = refl; node-zeros = refl; edge-zeros = refl }
+
+built-empty : (nodes edges : ℕ) (o : Res Fault Grown) → builtBy nodes edges o .number ≢ 0 → Empty nodes edges (builtBy nodes edges o)
+unfolding builtBy
+built-empty nodes edges (ok g) n = absurd (n refl)
+built-empty nodes edges (no y) n = empty-by nodes edges (faultNumber y)
+
+after-empty : (rules : List ℕ) (nodes edges k : ℕ) → buildAfter rules nodes edges k .number ≢ 0 → Empty nodes edges (buildAfter rules nodes edges k)
+unfolding buildAfter
+after-empty rules nodes edges zero n = built-empty nodes edges _ n
+after-empty rules nodes edges (suc k) n = empty-by nodes edges (suc k)
+
+pub refused-zeros-build : (provable logic : ℕ) (rules : List ℕ) (nodes edges : ℕ) → buildGives provable logic rules nodes edges .number ≢ 0
+    → Empty nodes edges (buildGives provable logic rules nodes edges)
+unfolding buildGives
+refused-zeros-build provable logic rules nodes edges n = after-empty rules nodes edges _ n
+
+-- the check alone clears its work slice whatever it answers
+pub refused-zeros-verify : (provable logic : ℕ) (rules tokens list : List ℕ) (work : ℕ) → verifyGives provable logic rules tokens list work .work-words ≡ zeros work
+unfolding verifyGives
+refused-zeros-verify provable logic rules tokens list work = refl
+
+-- ---- built-tables-pass: tables that a build answered 0 for, cut to its counts, are never 8 for a parse with the same rules
+
+-- the tables of a build, cut to its counts
+abbrev pub nodesIn : Built → List ℕ
+nodesIn b = take (b .nodes) (b .node-words)
+
+abbrev pub edgesIn : Built → List ℕ
+edgesIn b = take (rowWidth * b .edges) (b .edge-words)
+
+module _ (provable logic : ℕ) (rules : List ℕ) (nodes edges : ℕ) where
+  abbrev Good : Built → Type 0
+  Good b = b .number ≡ 0 → tablesGood (length (theRules rules)) (nodesIn b) (edgesIn b) ≡ true
+
+  fault-not-0 : (y : Fault) → faultNumber y ≢ 0
+  unfolding faultNumber
+  fault-not-0 collides e = omega arith
+  fault-not-0 noNode e = omega arith
+  fault-not-0 noEdge e = omega arith
+  fault-not-0 sixthReduce e = omega arith
+  fault-not-0 badCopy e = omega arith
+
+  built-good : rulesGood provable logic rules ≡ true → (o : Res Fault Grown) → grow (buildRoom nodes edges) (theRules rules) ≡ o → Good (builtBy nodes edges o)
+  unfolding builtBy
+  built-good r (no y) h e = absurd (fault-not-0 y e)
+  built-good r (ok g) h e = rw (
+    take-at (g .nodes) (zeros (nodes - length (g .nodes))) (length (g .nodes)) refl,
+    take-at (edgeWords (g .edges)) (zeros (edges - length (edgeWords (g .edges)))) (rowWidth * length (g .edges)) (edgeWords-length (g .edges)),
+  ) (built-tables-pass provable logic rules (buildRoom nodes edges) (lesser-le nodes mostNodes .1) (lesser-le (edges / rowWidth) mostEdges .1) r g h)
+
+  after-good : (k : ℕ) → firstFault (demand (rulesGood provable logic rules) 10 ∷ []) ≡ k → Good (buildAfter rules nodes edges k)
+  unfolding buildAfter
+  after-good zero h e = built-good (clear _ 10 _ (omega arith) h .passed) _ refl e
+  after-good (suc k) h e = absurd (omega arith)
+
+  pub built-passes : Good (buildGives provable logic rules nodes edges)
+  unfolding buildGives
+  built-passes = after-good _ refl
+
+-- the tables of a build, with a statement
+abbrev pub askedOf : ℕ → ℕ → List ℕ → Built → List ℕ → Asked
+askedOf provable logic rules b tokens = record { provable = provable; logic = logic; rules = rules; nodes = nodesIn b; edges = edgesIn b; tokens = tokens }
+
+-- no walk says 8
+not-walked : (q : Asked) (a : ℕ) (m : passes.Room) → Passed q → walk (theTables (q .rules) (q .nodes) (q .edges)) (q .provable) (q .logic) a m (q .tokens) .number ≢ 8
+not-walked q a m p = by-tokens (q .tokens) (λ ts. walk (theTables (q .rules) (q .nodes) (q .edges)) (q .provable) (q .logic) a m ts .number ≢ 8) (p .long)
+    λ t xs _ _ e. omega (arith, walk-numbers (theTables (q .rules) (q .nodes) (q .edges)) (q .provable) (q .logic) a m t xs .1)
+
+-- tables that pass are not what is refused
+not-8 : (b c : Bool) (ds : List Demand) → (b ≡ true → c ≡ true) → firstFault ds ≢ 8 → firstFault (demand b 10 ∷ demand c 8 ∷ ds) ≢ 8
+unfolding firstFault
+not-8 true true ds h r = r
+not-8 true false ds h r = λ e. false≢true (h refl)
+not-8 false c ds h r = λ e. omega arith
+
+pub built-tables-pass-parse : (provable logic : ℕ) (rules : List ℕ) (nodes edges : ℕ) → let b = buildGives provable logic rules nodes edges in
+    b .number ≡ 0 → (tokens : List ℕ) (a : ℕ) (s : Lent) → parseGives (askedOf provable logic rules b tokens) a s .number ≢ 8
+unfolding parseGives parsed walkOf
+built-tables-pass-parse provable logic rules nodes edges e tokens a s =
+    let q = askedOf provable logic rules (buildGives provable logic rules nodes edges) tokens in
+    after-by q (λ w. w .number ≢ 8) a (walkRoom s) (firstFault (parseDemands q)) (λ z. not-walked q a (walkRoom s) (demands-passed q z))
+    λ z. not-8 _ _ _ (λ r. built-passes provable logic rules nodes edges e) (fault-is (λ k. k ≢ 8) (λ e. omega arith) (one-more (λ e. omega arith) (one-more (λ e. omega arith) none-left)))

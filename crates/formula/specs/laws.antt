@@ -1,0 +1,6 @@
+pub mod Check
+pub mod Down
+pub mod Turns
+pub mod Flat
+pub mod Reduce
+pub mod Examples

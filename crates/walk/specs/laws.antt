@@ -1,0 +1,9 @@
+pub mod Mono
+pub mod Reduced
+pub mod View
+pub mod Runs
+pub mod Bound
+pub mod Frames
+pub mod Length
+pub mod Sound
+pub mod Examples
