@@ -17,11 +17,13 @@ use Rattle.words.specs.Numbers.{Fault, collides, noNode, noEdge, sixthReduce, b
 use Rattle.words.specs.laws.Tests.{by-test}
 use Rattle.words.specs.laws.Faults.{met, unmet, Clear, clear, Each, none-left, one-more, fault-is}
 use Rattle.rules.specs.Rules.{Rule, theRules, rulesGood, Stretch}
+use Rattle.rules.specs.laws.Proper.{Proper, rules-proper}
 use Rattle.rows.specs.Rows.{edgesOf, edgeWords, tablesGood}
 use Rattle.rows.specs.laws.Fair.{tables-fair, root-level, edge-fair}
 use Rattle.rows.specs.laws.Words.{edgeWords-length}
 use Rattle.tree.specs.Grow.{Grown, grow}
 use Rattle.tree.specs.laws.Built.{built-tables-pass}
+use Rattle.tree.specs.laws.Collide.{Among, first, later, Collision, grow-collides}
 use Rattle.formula.specs.Check.{check}
 use Rattle.formula.specs.Meaning.{Tree}
 use Rattle.formula.specs.laws.Check.{check-sound, check-complete, unique}
@@ -369,3 +371,33 @@ built-tables-pass-parse provable logic rules nodes edges e tokens a s =
     let q = askedOf provable logic rules (buildGives provable logic rules nodes edges) tokens in
     after-by q (λ w. w .number ≢ 8) a (walkRoom s) (firstFault (parseDemands q)) (λ z. not-walked q a (walkRoom s) (demands-passed q z))
     λ z. not-8 _ _ _ (λ r. built-passes provable logic rules nodes edges e) (fault-is (λ k. k ≢ 8) (λ e. omega arith) (one-more (λ e. omega arith) (one-more (λ e. omega arith) none-left)))
+
+-- ---- collide-exactly: a build answers 11 exactly if a body equals, begins or continues an earlier placed one
+
+-- good rules have bodies
+bodied : (R : List Rule) → Proper R → (r : Rule) → Among r R → r .body ≢ []
+bodied R a r (first S) e = omega (arith, a .0 .some-item, ap length e)
+bodied R a r (later p S i) e = bodied S (a .1) r i e
+
+fault-of : Res Fault Grown → ℕ
+fault-of (ok g) = 0
+fault-of (no y) = faultNumber y
+
+eleven-by : (nodes edges : ℕ) (o : Res Fault Grown) → (builtBy nodes edges o .number ≡ 11) ↔ (o ≡ no collides)
+unfolding builtBy faultNumber fault-of
+eleven-by nodes edges (ok g) = (λ e. absurd (omega arith), λ e. let z : _≡_ {A = ℕ} 0 1 = cc in absurd (omega arith))
+eleven-by nodes edges (no collides) = (λ e. refl, λ e. refl)
+eleven-by nodes edges (no noNode) = (λ e. absurd (omega arith), λ e. omega (arith, ap fault-of e))
+eleven-by nodes edges (no noEdge) = (λ e. absurd (omega arith), λ e. omega (arith, ap fault-of e))
+eleven-by nodes edges (no sixthReduce) = (λ e. absurd (omega arith), λ e. omega (arith, ap fault-of e))
+eleven-by nodes edges (no badCopy) = (λ e. absurd (omega arith), λ e. omega (arith, ap fault-of e))
+
+pub collide-exactly : (provable logic : ℕ) (rules : List ℕ) (nodes edges : ℕ) → rulesGood provable logic rules ≡ true → 1 ≤ nodes
+    → (buildGives provable logic rules nodes edges .number ≡ 11) ↔ Collision (buildRoom nodes edges) (theRules rules)
+unfolding buildGives buildAfter
+collide-exactly provable logic rules nodes edges h n =
+    let c = grow-collides (buildRoom nodes edges) (theRules rules) (bodied (theRules rules) (rules-proper provable logic rules h)) in
+    let m = eleven-by nodes edges (grow (buildRoom nodes edges) (theRules rules)) in
+    let z : 1 ≤ lesser nodes mostNodes = lesser-is nodes mostNodes 1 n (omega arith) in
+    let e : firstFault (demand (rulesGood provable logic rules) 10 ∷ []) ≡ 0 = met h 10 [] ∙ none-fails in
+    rw e (λ k. c .0 (m .0 k) .1, λ k. m .1 (c .1 (z, k)))

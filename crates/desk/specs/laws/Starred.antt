@@ -37,10 +37,14 @@ unfoldable pub meets : Lent → ℕ → ℕ → List ℕ → ℕ → Parsed → 
 meets s number place list passes a = eqb (a .number) number && eqb (a .place) place && eqb (a .length) (length list) && eqb (a .passes) passes
     && sameWords (a .list-words) (padded list (s .list)) && sameWords (a .frame-words) (zeros (s .frames)) && sameWords (a .work-words) (zeros (s .work))
 
+-- the check's number, and zeros in all else that comes back
+unfoldable pub answers : ℕ → ℕ → Verified → Bool
+answers number work a = eqb (a .number) number && eqb (a .place) 0 && eqb (a .length) 0 && eqb (a .passes) 0 && sameWords (a .work-words) (zeros work)
+
 unfoldable pub holds : Row → Bool
 holds (parses set tokens allowance lent number place list passes) =
     meets lent number place list passes (parseGives (asks set tokens (built set)) allowance lent)
-holds (checks set tokens list number) = eqb (verifyGives 1 2 set tokens list (length list) .number) number
+holds (checks set tokens list number) = answers number (length list + 3) (verifyGives 1 2 set tokens list (length list + 3))
 
 unfoldable pub every : List Row → Bool
 every [] = true
@@ -54,7 +58,7 @@ abbrev pub row : List ℕ → List ℕ → ℕ → ℕ → List ℕ → ℕ → 
 row set tokens number place list passes = parses set tokens 100 ample number place list passes
 
 unfoldable pub opening : Unit {0}
-unfolding built asks meets holds every sameWords sets entering
+unfolding built asks meets answers holds every sameWords sets entering
 opening = tt
 
 unfoldable pub starred : List Row
