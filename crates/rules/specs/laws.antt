@@ -1,2 +1,4 @@
 pub mod Every
 pub mod Proper
+pub mod Words
+pub mod Examples

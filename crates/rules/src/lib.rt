@@ -1,1 +1,293 @@
-// rules
+// Rules as a slice of words: the rule check, where a rule starts, and what stands there.
+ghost use mathlib.Core.Path.{_≡_};
+ghost use mathlib.Core.Bool.{true};
+ghost use Prim.Native.Nat.{_+_, _*_, _≤_, _<_};
+ghost use lib.ListN.{length};
+ghost use Rattle.words.specs.Limits.{mostItems, itemWidth, mostRules};
+ghost use Rattle.rules.specs.Rules.{sizeOf, bodyWords, itemsOf, theRules, ruleOf, slots, source, symbol, goodItems, goodHead, equalEnds, goodRules, rulesGood, cut};
+ghost use Rattle.rules.specs.Code.{firstOf, aRule, someRules, Found, sourceOf, stretchOf, bodyIn};
+
+// The two typecodes that come with the rules.
+pub struct Codes {
+    pub provable: words::SymbolNo,
+    pub logic: words::SymbolNo,
+}
+
+// What stands first in a slice of rules: a good rule of so many words, or none.
+pub enum First {
+    Size(usize),
+    Bad,
+}
+
+// The word at which a rule starts.
+pub enum Start {
+    At(usize),
+    Nothing,
+}
+
+// The typecode that a conversion goes from.
+pub enum Conversion {
+    From(words::SymbolNo),
+    No,
+}
+
+// A part of the rule slice.
+pub struct Stretch {
+    pub start: u32,
+    pub length: u32,
+}
+
+// ---- the rule check
+
+// Whether a word is a symbol or a typecode.
+pub fn symbol(x: u32) -> bool
+    ensures { λ r. ⌜ r ≡ symbol x ⌝ }
+{
+    if x < 1 {
+        return false;
+    }
+    x <= words::MOST_SYMBOL
+}
+
+// Whether a body is whole items, each of a kind that there is and with a symbol.
+pub fn good_items(body: &[u32]) -> bool
+    ensures { λ r. ⌜ r ≡ goodItems (now (body .entry)) ⌝ }
+{
+    let mut i = 0;
+    while i < body.len() {
+        if body.len() - i < words::ITEM_WIDTH {
+            return false;
+        }
+        if 1 < body[i] {
+            return false;
+        }
+        if !symbol(body[i + 1]) {
+            return false;
+        }
+        i += words::ITEM_WIDTH;
+    }
+    true
+}
+
+// Whether a rule may have this result and so many items.
+pub fn good_head(provable: words::SymbolNo, result: u32, items: u32) -> bool
+    ensures { λ r. ⌜ r ≡ goodHead (provable .0) result items ⌝ }
+{
+    if result == provable.0 {
+        return false;
+    }
+    if !symbol(result) {
+        return false;
+    }
+    if items < 1 {
+        return false;
+    }
+    items <= words::MOST_ITEMS
+}
+
+// The words of the rule that stands first.
+pub fn size_of(s: &[u32]) -> usize
+    requires { ⌜ 1 < length (now s) ⌝ }
+    ensures { λ r. ⌜ r ≡ sizeOf (now (s .entry)) ⌝ }
+{
+    2 + words::ITEM_WIDTH * (s[1] as usize)
+}
+
+// Whether the rule that stands first turns a typecode into itself.
+pub fn equal_ends(s: &[u32]) -> bool
+    requires { ⌜ (1 < length (now s)) × (sizeOf (now s) ≤ length (now s)) ⌝ }
+    ensures { λ r. ⌜ r ≡ equalEnds (now (s .entry)) ⌝ }
+{
+    if s[1] != 1 {
+        return false;
+    }
+    if s[2] != 1 {
+        return false;
+    }
+    s[3] == s[0]
+}
+
+// The words of the rule that stands first, if it is a good one.
+pub fn good_rule(s: &[u32], provable: words::SymbolNo) -> First
+    ensures { λ r. ⌜ r ≡ firstOf (provable .0) (now (s .entry)) ⌝ }
+{
+    if s.len() < 2 {
+        return First::Bad;
+    }
+    if !good_head(provable, s[0], s[1]) {
+        return First::Bad;
+    }
+    let size = size_of(s);
+    if s.len() < size {
+        return First::Bad;
+    }
+    if !good_items(&s[2..size]) {
+        return First::Bad;
+    }
+    if equal_ends(s) {
+        return First::Bad;
+    }
+    First::Size(size)
+}
+
+// Whether the words are good rules, not too many of them, and no word is left over.
+pub fn good_rules(rules: &[u32], provable: words::SymbolNo) -> bool
+    ensures { λ r. ⌜ r ≡ goodRules (provable .0) mostRules (now (rules .entry)) ⌝ }
+{
+    let mut i = 0;
+    let mut left = words::MOST_RULES;
+    while i < rules.len() {
+        if left == 0 {
+            return false;
+        }
+        let First::Size(n) = good_rule(&rules[i..], provable) else {
+            return false;
+        };
+        i += n;
+        left -= 1;
+    }
+    true
+}
+
+// Whether rules and typecodes are good: 10 if not.
+pub fn rules_good(rules: &[u32], codes: Codes) -> bool
+    ensures { λ r. ⌜ r ≡ rulesGood (codes .provable .0) (codes .logic .0) (now (rules .entry)) ⌝ }
+{
+    let p = codes.provable.0;
+    let l = codes.logic.0;
+    if p == l {
+        return false;
+    }
+    if !symbol(p) {
+        return false;
+    }
+    if !symbol(l) {
+        return false;
+    }
+    good_rules(rules, words::SymbolNo(p))
+}
+
+// ---- rules by number
+
+// How many rules there are.
+pub fn count(rules: &[u32]) -> u32
+    requires { ⌜ someRules (now rules) ≡ true ⌝ }
+    ensures { λ r. ⌜ r ≡ length (theRules (now (rules .entry))) ⌝ }
+{
+    let mut n: u32 = 0;
+    let mut i = 0;
+    while i < rules.len() {
+        i += size_of(&rules[i..]);
+        n += 1;
+    }
+    n
+}
+
+// Where rule `no` starts.
+pub fn find_rule(rules: &[u32], no: words::RuleNo) -> Start
+    requires { ⌜ someRules (now rules) ≡ true ⌝ }
+    ensures { λ r. ⌜ Found (now (rules .entry)) (no .0) r ⌝ }
+{
+    let wanted = no.0;
+    let mut n: u32 = 0;
+    let mut i = 0;
+    while i < rules.len() {
+        n += 1;
+        if n == wanted {
+            return Start::At(i);
+        }
+        i += size_of(&rules[i..]);
+    }
+    Start::Nothing
+}
+
+// ---- the rule that stands first in a slice
+
+pub fn result_of(s: &[u32]) -> words::SymbolNo
+    requires { ⌜ aRule (now s) ≡ true ⌝ }
+    ensures { λ r. ⌜ r .0 ≡ ruleOf (now (s .entry)) .result ⌝ }
+{
+    words::SymbolNo(s[0])
+}
+
+// The body's words, as a part of the slice.
+pub fn body_of(s: &[u32]) -> &[u32]
+    requires { ⌜ aRule (now s) ≡ true ⌝ }
+    ensures { λ r. ⌜ now r ≡ bodyWords (now (s .entry)) ⌝ }
+{
+    let size = size_of(s);
+    &s[2..size]
+}
+
+// The slots among a body's items.
+pub fn slots_in(body: &[u32]) -> u32
+    requires { ⌜ (goodItems (now body) ≡ true) × (length (now body) ≤ itemWidth * mostItems) ⌝ }
+    ensures { λ r. ⌜ r ≡ slots (itemsOf (now (body .entry))) ⌝ }
+{
+    let mut n: u32 = 0;
+    let mut i = 0;
+    while i < body.len() {
+        if body[i] == 1 {
+            n += 1;
+        }
+        i += words::ITEM_WIDTH;
+    }
+    n
+}
+
+pub fn slots_of(s: &[u32]) -> u32
+    requires { ⌜ aRule (now s) ≡ true ⌝ }
+    ensures { λ r. ⌜ r ≡ slots (ruleOf (now (s .entry)) .body) ⌝ }
+{
+    let body = body_of(s);
+    slots_in(body)
+}
+
+// Whether the rule is a conversion, and from where.
+pub fn conversion_of(s: &[u32]) -> Conversion
+    requires { ⌜ aRule (now s) ≡ true ⌝ }
+    ensures { λ r. ⌜ sourceOf r ≡ source (ruleOf (now (s .entry)) .body) ⌝ }
+{
+    if s[1] != 1 {
+        return Conversion::No;
+    }
+    if s[2] != 1 {
+        return Conversion::No;
+    }
+    Conversion::From(words::SymbolNo(s[3]))
+}
+
+// ---- for callers with any words
+
+// Where the body of rule `no` stands.
+pub fn stretch_of(rules: &[u32], codes: Codes, no: words::RuleNo) -> Stretch
+    ensures { λ r. ⌜ stretchOf r ≡ bodyIn codes (now (rules .entry)) no ⌝ }
+{
+    if !rules_good(rules, codes) {
+        return Stretch {
+            start: 0,
+            length: 0,
+        };
+    }
+    let Start::At(i) = find_rule(rules, no) else {
+        return Stretch {
+            start: 0,
+            length: 0,
+        };
+    };
+    let size = size_of(&rules[i..]);
+    Stretch {
+        start: (i + 2) as u32,
+        length: (size - 2) as u32,
+    }
+}
+
+// The body of rule `no`, as that part of the caller's slice.
+pub fn body(rules: &[u32], codes: Codes, no: words::RuleNo) -> &[u32]
+    ensures { λ r. ⌜ now r ≡ cut (now (rules .entry)) (bodyIn codes (now (rules .entry)) no) ⌝ }
+{
+    let at = stretch_of(rules, codes, no);
+    let a = at.start as usize;
+    let e = a + at.length as usize;
+    &rules[a..e]
+}
