@@ -1,2 +1,4 @@
 pub mod Fair
 pub mod Words
+pub mod Lookup
+pub mod Examples

@@ -1,1 +1,358 @@
-// rows
+// Node and edge rows, look-up, reduce lists and the table check.
+ghost use mathlib.Core.Path.{_≡_};
+ghost use mathlib.Core.Bool.{not};
+ghost use Prim.Native.Nat.{_+_, _/_, _≤_, _<_};
+ghost use lib.ListN.{length, getD};
+ghost use Rattle.words.specs.Limits.{rowWidth, mostReduces, mostOffset};
+ghost use Rattle.rules.specs.Rules.{symbol};
+ghost use Rattle.rows.specs.Rows.{edgeOf, edgesOf, rowWords, keyed, bare, goodNodes, goodPair, rootToLeaf, goodEnds, nodesGood, edgesGood, tablesGood};
+ghost use Rattle.rows.specs.Code.{reduceIs, edgeIs, Holds, Adds, rowAt, written, looksUp};
+
+// A rule, reduced under the top `offset` trees.
+pub struct Reduce {
+    pub rule: words::RuleNo,
+    pub offset: u32,
+}
+
+// An edge by value. Of the five places the first `count` are its reduces; the others hold anything.
+pub struct Edge {
+    pub from: words::NodeNo,
+    pub kind: u32,
+    pub symbol: words::SymbolNo,
+    pub to: words::NodeNo,
+    pub count: u32,
+    pub reduces: [Reduce; 5],
+}
+
+// An edge with one reduce more, or as it was where it has five.
+pub struct Added {
+    pub ok: bool,
+    pub edge: Edge,
+}
+
+pub enum Found {
+    Row(usize),
+    Nothing,
+}
+
+// ---- rows
+
+fn reduce_at(row: &[u32], at: usize) -> Reduce
+    requires { ⌜ at + 2 ≤ length (now row) ⌝ }
+    ensures { λ r. ⌜ reduceIs r ≡ record { rule = getD (now (row .entry)) at 0; offset = getD (now (row .entry)) (at + 1) 0 } ⌝ }
+{
+    Reduce {
+        rule: words::RuleNo(row[at]),
+        offset: row[at + 1],
+    }
+}
+
+// The edge that a row says.
+pub fn read_edge(row: &[u32]) -> Edge
+    requires { ⌜ (length (now row) ≡ rowWidth) × (length (edgeOf (now row) .reduces) ≤ mostReduces) ⌝ }
+    ensures { λ r. ⌜ Holds r (edgeOf (now (row .entry))) ⌝ }
+{
+    let reduces = [
+        reduce_at(row, 5),
+        reduce_at(row, 7),
+        reduce_at(row, 9),
+        reduce_at(row, 11),
+        reduce_at(row, 13),
+    ];
+    Edge {
+        from: words::NodeNo(row[0]),
+        kind: row[1],
+        symbol: words::SymbolNo(row[2]),
+        to: words::NodeNo(row[3]),
+        count: row[4],
+        reduces,
+    }
+}
+
+// The edge of row number `row`.
+pub fn read_row(edges: &[u32], row: usize) -> Edge
+    requires { ⌜ (row < length (now edges) / rowWidth) × (length (edgeOf (rowAt (now edges) row) .reduces) ≤ mostReduces) ⌝ }
+    ensures { λ r. ⌜ Holds r (edgeOf (rowAt (now (edges .entry)) row)) ⌝ }
+{
+    let at = words::ROW_WIDTH * row;
+    read_edge(&edges[at..at + words::ROW_WIDTH])
+}
+
+// The reduce at place `k`; zeros where the edge has none there.
+pub fn reduce_of(e: Edge, k: usize) -> Reduce
+    requires { ⌜ k < mostReduces ⌝ }
+    ensures { λ r. ⌜ reduceIs r ≡ getD (edgeIs e .reduces) k (record { rule = 0; offset = 0 }) ⌝ }
+{
+    let count = e.count;
+    if (k as u32) < count {
+        return e.reduces[k];
+    }
+    Reduce {
+        rule: words::RuleNo(0),
+        offset: 0,
+    }
+}
+
+// The words of an edge, in a row.
+pub fn write_row(row: &mut [u32], e: Edge)
+    requires { ⌜ (length (now row) ≡ rowWidth) × (e .count ≤ mostReduces) ⌝ }
+    ensures { λ _. ⌜ now (row .exit) ≡ rowWords (edgeIs e) ⌝ }
+{
+    row[0] = e.from.0;
+    row[1] = e.kind;
+    row[2] = e.symbol.0;
+    row[3] = e.to.0;
+    row[4] = e.count;
+    let mut k: usize = 0;
+    while k < 5 {
+        let r = reduce_of(e, k);
+        row[5 + 2 * k] = r.rule.0;
+        row[6 + 2 * k] = r.offset;
+        k += 1;
+    }
+    row[15] = 0;
+}
+
+// Row number `row` of the table, written.
+pub fn write_edge(edges: &mut [u32], row: usize, e: Edge)
+    requires { ⌜ (row < length (now edges) / rowWidth) × (e .count ≤ mostReduces) ⌝ }
+    ensures { λ _. ⌜ now (edges .exit) ≡ written (now (edges .entry)) row (edgeIs e) ⌝ }
+{
+    let at = words::ROW_WIDTH * row;
+    write_row(&mut edges[at..at + words::ROW_WIDTH], e);
+}
+
+// ---- reduce lists
+
+// The edge with `r` before its other reduces.
+pub fn with_reduce(e: Edge, r: Reduce) -> Added
+    ensures { λ a. ⌜ Adds e (reduceIs r) a ⌝ }
+{
+    let n = e.count;
+    if words::MOST_REDUCES <= n {
+        return Added { ok: false, edge: e };
+    }
+    let mut out = e;
+    let mut k: usize = 4;
+    while 0 < k {
+        let moved = out.reduces[k - 1];
+        out.reduces[k] = moved;
+        k -= 1;
+    }
+    out.reduces[0] = r;
+    out.count = n + 1;
+    Added {
+        ok: true,
+        edge: out,
+    }
+}
+
+// The same, with the reduce under one tree more.
+pub fn with_offset_reduce(e: Edge, r: Reduce) -> Added
+    requires { ⌜ r .offset < mostOffset ⌝ }
+    ensures { λ a. ⌜ Adds e (record { rule = r .rule .0; offset = r .offset + 1 }) a ⌝ }
+{
+    let mut raised = r;
+    raised.offset = r.offset + 1;
+    with_reduce(e, raised)
+}
+
+// ---- the look-up
+
+// Whether a row has this key.
+fn row_is(row: &[u32], from: words::NodeNo, kind: u32, symbol: words::SymbolNo) -> bool
+    requires { ⌜ length (now row) ≡ rowWidth ⌝ }
+    ensures { λ r. ⌜ r ≡ keyed (from .0) kind (symbol .0) (edgeOf (now (row .entry))) ⌝ }
+{
+    if row[0] != from.0 {
+        return false;
+    }
+    if row[1] != kind {
+        return false;
+    }
+    row[2] == symbol.0
+}
+
+// The first row with this key.
+pub fn look_up(edges: &[u32], from: words::NodeNo, kind: u32, symbol: words::SymbolNo) -> Found
+    ensures { λ r. ⌜ r ≡ looksUp (now (edges .entry)) (from .0) kind (symbol .0) ⌝ }
+{
+    let n = edges.len() / words::ROW_WIDTH;
+    let mut row = 0;
+    while row < n {
+        let at = words::ROW_WIDTH * row;
+        if row_is(&edges[at..at + words::ROW_WIDTH], from, kind, symbol) {
+            return Found::Row(row);
+        }
+        row += 1;
+    }
+    Found::Nothing
+}
+
+// Whether any row leaves this node.
+pub fn leaves(edges: &[u32], from: words::NodeNo) -> bool
+    ensures { λ r. ⌜ r ≡ not (bare (edgesOf (now (edges .entry))) (from .0)) ⌝ }
+{
+    let n = edges.len() / words::ROW_WIDTH;
+    let mut row = 0;
+    while row < n {
+        if edges[words::ROW_WIDTH * row] == from.0 {
+            return true;
+        }
+        row += 1;
+    }
+    false
+}
+
+// ---- the table check
+
+// A symbol or a typecode.
+fn symbol(x: u32) -> bool
+    ensures { λ r. ⌜ r ≡ symbol x ⌝ }
+{
+    if x < 1 {
+        return false;
+    }
+    x <= words::MOST_SYMBOL
+}
+
+// Whether each node is a branch or the leaf of a rule that there is.
+fn good_nodes(rules: u32, nodes: &[u32]) -> bool
+    ensures { λ r. ⌜ r ≡ goodNodes rules (now (nodes .entry)) ⌝ }
+{
+    let mut i = 0;
+    while i < nodes.len() {
+        if rules < nodes[i] {
+            return false;
+        }
+        i += 1;
+    }
+    true
+}
+
+fn nodes_good(rules: u32, nodes: &[u32]) -> bool
+    ensures { λ r. ⌜ r ≡ nodesGood rules (now (nodes .entry)) ⌝ }
+{
+    if nodes.len() < 1 {
+        return false;
+    }
+    if words::MOST_NODES < nodes.len() {
+        return false;
+    }
+    if nodes[0] != 0 {
+        return false;
+    }
+    good_nodes(rules, nodes)
+}
+
+// Whether pair number `k` of a row is good: a rule that there is and an offset, or zeros.
+fn good_pair(rules: u32, k: u32, count: u32, rule: u32, offset: u32) -> bool
+    ensures { λ r. ⌜ r ≡ goodPair rules k count rule offset ⌝ }
+{
+    if k < count {
+        if rule < 1 {
+            return false;
+        }
+        if rules < rule {
+            return false;
+        }
+        return offset <= words::MOST_OFFSET;
+    }
+    if rule != 0 {
+        return false;
+    }
+    offset == 0
+}
+
+// Whether a row is a variable edge of node 0 that leads to a leaf.
+fn root_to_leaf(nodes: &[u32], row: &[u32]) -> bool
+    requires { ⌜ (length (now row) ≡ rowWidth) × (getD (now row) 3 0 < length (now nodes)) ⌝ }
+    ensures { λ r. ⌜ r ≡ rootToLeaf (now (nodes .entry)) (now (row .entry)) ⌝ }
+{
+    if row[0] != 0 {
+        return false;
+    }
+    if row[1] != 1 {
+        return false;
+    }
+    let to = row[3];
+    nodes[to as usize] != 0
+}
+
+// Whether a row's words but for its pairs are good.
+fn good_ends(nodes: &[u32], row: &[u32]) -> bool
+    requires { ⌜ length (now row) ≡ rowWidth ⌝ }
+    ensures { λ r. ⌜ r ≡ goodEnds (now (nodes .entry)) (now (row .entry)) ⌝ }
+{
+    let from = row[0];
+    let to = row[3];
+    if nodes.len() <= (from as usize) {
+        return false;
+    }
+    if nodes[from as usize] != 0 {
+        return false;
+    }
+    if 1 < row[1] {
+        return false;
+    }
+    if !symbol(row[2]) {
+        return false;
+    }
+    if to == 0 {
+        return false;
+    }
+    if nodes.len() <= (to as usize) {
+        return false;
+    }
+    if root_to_leaf(nodes, row) {
+        return false;
+    }
+    if words::MOST_REDUCES < row[4] {
+        return false;
+    }
+    row[15] == 0
+}
+
+// Whether every row is good. The first bad word ends the scan.
+fn edges_good(rules: u32, nodes: &[u32], edges: &[u32]) -> bool
+    ensures { λ r. ⌜ r ≡ edgesGood rules (now (nodes .entry)) (now (edges .entry)) ⌝ }
+{
+    if edges.len() % words::ROW_WIDTH != 0 {
+        return false;
+    }
+    let n = edges.len() / words::ROW_WIDTH;
+    if words::MOST_EDGES < n {
+        return false;
+    }
+    let mut ok = true;
+    let mut row = 0;
+    'rows: while row < n {
+        let at = words::ROW_WIDTH * row;
+        if !good_ends(nodes, &edges[at..at + words::ROW_WIDTH]) {
+            ok = false;
+            break 'rows;
+        }
+        let count = edges[at + 4];
+        let mut k: u32 = 0;
+        'pairs: while k < words::MOST_REDUCES {
+            let p = at + 5 + 2 * (k as usize);
+            if !good_pair(rules, k, count, edges[p], edges[p + 1]) {
+                ok = false;
+                break 'rows;
+            }
+            k += 1;
+        }
+        row += 1;
+    }
+    ok
+}
+
+// Whether the tables are good for so many rules.
+pub fn tables_good(rules: u32, nodes: &[u32], edges: &[u32]) -> bool
+    ensures { λ r. ⌜ r ≡ tablesGood rules (now (nodes .entry)) (now (edges .entry)) ⌝ }
+{
+    if !nodes_good(rules, nodes) {
+        return false;
+    }
+    edges_good(rules, nodes, edges)
+}

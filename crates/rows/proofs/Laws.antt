@@ -1,0 +1,284 @@
+-- Laws that the proofs of this crate's functions share.
+use mathlib.Core.Path.{_≡_, refl, sym, ap, _∙_}
+use mathlib.Core.Bool.{Bool, true, false, false≢true, _&&_}
+use mathlib.Core.List.{List, [], _∷_, _++_, map, append-nil, append-assoc}
+use mathlib.Core.Option.{none, some}
+use Prim.Native.Nat.{ℕ, zero, suc, _+_, _*_, _-_, _/_, _%_, _≤_, _<_}
+use native.Mathlib.Nat.{not-suc-le-zero, le-of-suc-le-suc}
+use native.Mathlib.Numerals.{add-one}
+use native.Mathlib.Omega.{arith}
+use lib.Dec.{leb, eqb}
+use lib.ListN.{length, take, drop, getD, set, drop-of-length-le, List·getD-append, length-map, length-take, List·getD-map, List·getD-eq-default, length-set}
+use lib.Seq.{drop-cons, drop-drop, take-all, take-suc, getD-drop, getD-take, set-at, length-take-le, take-take, take-suc-set, sets, sets-eq}
+use borrow.Author.Tests.{lt-ltb, le-ltb}
+use borrow.Rule.Slice.PartMut.{putMid}
+use Rattle.words.specs.Limits.{mostEdges}
+use Rattle.words.specs.Outcome.{pick}
+use Rattle.words.specs.laws.Tests.{tests}
+use Rattle.rows.specs.Rows.{Reduce, Edge, withReduce, reducesOf, edgeOf, edgesFrom, rowsOf, reduceWords, rowWords, keyed, bare, goodNodes, goodPair, goodPairs, goodEnds, goodRows, edgesGood}
+use Rattle.rows.specs.Code.{reduceIs, edgeIs, Holds, Adds, rowAt, numbered}
+use Rattle.rows.specs.declared.Reduce as coded
+use Rattle.rows.specs.declared.Edge as held
+use Rattle.rows.specs.declared.Found.the-variants.{Row, Nothing}
+use Rattle.rows.specs.laws.Words.{row-length}
+use Rattle.rows.specs.laws.Lookup.{rowsLeft, rows-step, rows-end}
+
+-- ---- rows, from row r on
+
+-- a row, as the code cuts it out
+pub row-part : (ws : List ℕ) (a : ℕ) → take (a + 16 - a) (drop a ws) ≡ take 16 (drop a ws)
+row-part ws a = let e : a + 16 - a ≡ 16 = omega arith in rw e
+
+-- a word of a row
+pub word-at : (ws : List ℕ) (a j : ℕ) → j < 16 → getD (take 16 (drop a ws)) j 0 ≡ getD ws (a + j) 0
+word-at ws a j h = getD-take 16 (drop a ws) j 0 h ∙ getD-drop a ws j 0
+
+-- ---- the look-up, from row r on
+
+pub look-step : (f k s : ℕ) (ws : List ℕ) (n r : ℕ) → r < n
+    → numbered f k s r (edgesFrom (rowsLeft ws n r)) ≡ pick (keyed f k s (edgeOf (rowAt ws r))) (Row r) (numbered f k s (r + 1) (edgesFrom (rowsLeft ws n (r + 1))))
+unfolding numbered edgesFrom
+look-step f k s ws n r h = rw (rows-step ws n r h)
+
+pub look-end : (f k s : ℕ) (ws : List ℕ) (n r : ℕ) → n ≤ r → numbered f k s r (edgesFrom (rowsLeft ws n r)) ≡ Nothing
+unfolding numbered edgesFrom
+look-end f k s ws n r h = rw (rows-end ws n r h)
+
+-- ---- rows that leave a node, from row r on
+
+pub bare-step : (f : ℕ) (ws : List ℕ) (n r : ℕ) → r < n
+    → bare (edgesFrom (rowsLeft ws n r)) f ≡ elim (eqb (getD ws (16 * r) 0) f) [ true ↦ false | false ↦ bare (edgesFrom (rowsLeft ws n (r + 1))) f ]
+unfolding bare edgesFrom edgeOf
+bare-step f ws n r h =
+    let z : 16 * r + 0 ≡ 16 * r = omega arith in
+    rw (rows-step ws n r h, word-at ws (16 * r) 0 (omega arith), z)
+
+pub bare-end : (f : ℕ) (ws : List ℕ) (n r : ℕ) → n ≤ r → bare (edgesFrom (rowsLeft ws n r)) f ≡ true
+unfolding bare edgesFrom
+bare-end f ws n r h = rw (rows-end ws n r h)
+
+-- ---- the table check
+
+pub nodes-step : (rules : ℕ) (ns : List ℕ) (i : ℕ) → i < length ns → goodNodes rules (drop i ns) ≡ leb (getD ns i 0) rules && goodNodes rules (drop (i + 1) ns)
+unfolding goodNodes
+nodes-step rules ns i h = rw (drop-cons ns i 0 h, add-one)
+
+pub nodes-end : (rules : ℕ) (ns : List ℕ) (i : ℕ) → length ns ≤ i → goodNodes rules (drop i ns) ≡ true
+unfolding goodNodes
+nodes-end rules ns i h = rw (drop-of-length-le ns h)
+
+pub table-step : (ns ws : List ℕ) (rules : ℕ) → length ws % 16 ≡ 0 → length ws / 16 ≤ mostEdges → edgesGood rules ns ws ≡ goodRows rules ns (rowsOf ws)
+unfolding edgesGood
+table-step ns ws rules e h = search tests
+
+pub check-step : (ns ws : List ℕ) (rules n r : ℕ) → r < n
+    → goodRows rules ns (rowsLeft ws n r) ≡ goodEnds ns (rowAt ws r) && goodPairs rules (rowAt ws r) 5 0 && goodRows rules ns (rowsLeft ws n (r + 1))
+unfolding goodRows
+check-step ns ws rules n r h = rw (rows-step ws n r h)
+
+pub check-end : (ns ws : List ℕ) (rules n r : ℕ) → n ≤ r → goodRows rules ns (rowsLeft ws n r) ≡ true
+unfolding goodRows
+check-end ns ws rules n r h = rw (rows-end ws n r h)
+
+-- pair number k of the row that starts at word a, as the code reads it
+abbrev pub pairAt : ℕ → List ℕ → ℕ → ℕ → Bool
+pairAt rules ws a k = goodPair rules k (getD ws (a + 4) 0) (getD ws (a + 5 + 2 * k) 0) (getD ws (a + 5 + 2 * k + 1) 0)
+
+pairs-step : (ws : List ℕ) (rules a k : ℕ) → k < 5
+    → goodPairs rules (take 16 (drop a ws)) (5 - k) k ≡ pairAt rules ws a k && goodPairs rules (take 16 (drop a ws)) (5 - (k + 1)) (k + 1)
+unfolding goodPairs
+pairs-step ws rules a k h =
+    let e : 5 - k ≡ suc (5 - (k + 1)) = omega arith in
+    let p : a + (5 + 2 * k) ≡ a + 5 + 2 * k = omega arith in
+    let q : a + (6 + 2 * k) ≡ a + 5 + 2 * k + 1 = omega arith in
+    rw (e, word-at ws a 4 (omega arith), word-at ws a (5 + 2 * k) (omega arith), word-at ws a (6 + 2 * k) (omega arith), p, q)
+
+pub pairs-end : (rules k : ℕ) (row : List ℕ) → 5 ≤ k → goodPairs rules row (5 - k) k ≡ true
+unfolding goodPairs
+pairs-end rules k row h = let e : 5 - k ≡ 0 = omega arith in rw e
+
+-- a good pair: the pairs after it decide
+pub pairs-more : (ws : List ℕ) (rules a k : ℕ) → k < 5 → pairAt rules ws a k ≡ true
+    → goodPairs rules (take 16 (drop a ws)) (5 - (k + 1)) (k + 1) ≡ goodPairs rules (take 16 (drop a ws)) (5 - k) k
+pairs-more ws rules a k h e = rw (pairs-step ws rules a k h, e)
+
+-- a bad pair
+pub pairs-bad : (ws : List ℕ) (rules a k : ℕ) → k < 5 → pairAt rules ws a k ≡ false → goodPairs rules (take 16 (drop a ws)) (5 - k) k ≡ false
+pairs-bad ws rules a k h e = rw (pairs-step ws rules a k h, e)
+
+-- a row with bad pairs
+pub row-bad : (ns ws : List ℕ) (rules n r : ℕ) → r < n → goodEnds ns (rowAt ws r) ≡ true → goodPairs rules (rowAt ws r) 5 0 ≡ false
+    → goodRows rules ns (rowsLeft ws n r) ≡ false
+row-bad ns ws rules n r h e b = rw (check-step ns ws rules n r h, e, b)
+
+-- ---- reduce lists
+
+module _ {A : Type 0} where
+  -- of five elements those from k on moved up by one
+  abbrev pub shifted : List A → ℕ → List A
+  shifted old k = take (k + 1) old ++ take (4 - k) (drop k old)
+
+  pub shift-none : (old : List A) → length old ≡ 5 → shifted old 4 ≡ old
+  shift-none old e = append-nil (take 5 old) ∙ take-all 5 old (omega arith)
+
+  -- a turn: the element before k goes to k
+  pub shift-more : (old : List A) (k : ℕ) (d : A) → length old ≡ 5 → 0 < k → k ≤ 4
+      → set (shifted old k) k (getD (shifted old k) (k - 1) d) ≡ shifted old (k - 1)
+  shift-more old zero d e h b = absurd (not-suc-le-zero h)
+  shift-more old (suc j) d e h b =
+      let one : suc j - 1 ≡ j = omega arith in
+      let more : 4 - j ≡ suc (4 - suc j) = omega arith in
+      let rest : List A = take (4 - suc j) (drop (suc j) old) in
+      let len : length (take (suc (suc j)) old) ≡ suc (suc j) = length-take-le (suc (suc j)) old (omega arith) in
+      let at : getD (take (suc (suc j)) old ++ rest) j d ≡ getD old j d =
+      List·getD-append (take (suc (suc j)) old) rest d j (omega arith) ∙ getD-take (suc (suc j)) old j d (omega arith) in
+      rw (one, add-one, add-one, at, more, drop-cons old j d (omega arith))
+      (ap (λ (l : List A). set (l ++ rest) (suc j) (getD old j d)) (take-suc old (suc j) d (omega arith))
+      ∙ ap (λ (l : List A). set l (suc j) (getD old j d)) (append-assoc (take (suc j) old) (getD old (suc j) d ∷ []) rest)
+      ∙ set-at (take (suc j) old) (getD old (suc j) d) rest (getD old j d) (suc j) (length-take-le (suc j) old (omega arith)))
+
+  -- the new first element
+  pub shift-done : (old : List A) (a : A) → length old ≡ 5 → set (shifted old 0) 0 a ≡ a ∷ take 4 old
+  shift-done old a e = rw (drop-cons old 0 a (omega arith))
+
+-- an edge with other places
+abbrev pub placed : held.Edge → ℕ → List coded.Reduce → held.Edge
+placed e n rs = record { from = e .from; kind = e .kind; symbol = e .symbol; to = e .to; count = n; reduces = rs }
+
+with-room : (d : Reduce) (ds : List Reduce) → length ds < 5 → withReduce d ds ≡ some (d ∷ ds)
+unfolding withReduce
+with-room d ds h = rw (lt-ltb (length ds) 5 h, withReduce)
+
+with-none : (d : Reduce) (ds : List Reduce) → 5 ≤ length ds → withReduce d ds ≡ none
+unfolding withReduce
+with-none d ds h = rw (le-ltb (length ds) 5 h, withReduce)
+
+-- a sixth
+pub refuses : (e : held.Edge) (d : Reduce) → length (e .reduces) ≡ 5 → 5 ≤ e .count → Adds e d (record { ok = false; edge = e })
+refuses e d l h =
+    let many : 5 ≤ length (edgeIs e .reduces) = rw (length-map, take-all (e .count) (e .reduces) (omega arith)) (omega arith) in
+    record { gives = λ t. absurd (false≢true t); refuses = λ _. (with-none d (edgeIs e .reduces) many, refl); rest = refl; fits = λ f. f }
+
+-- one that there is a place for
+pub adds : (e : held.Edge) (r : coded.Reduce) → length (e .reduces) ≡ 5 → e .count < 5
+    → Adds e (reduceIs r) (record { ok = true; edge = placed e (e .count + 1) (r ∷ take 4 (e .reduces)) })
+adds e r l h =
+    let few : length (edgeIs e .reduces) < 5 = rw (length-map, length-take-le (e .count) (e .reduces) (omega arith)) h in
+    record {
+      gives = λ _. rw (with-room (reduceIs r) (edgeIs e .reduces) few, add-one, take-take (e .count) 4 (e .reduces) (omega arith));
+      refuses = λ t. absurd (false≢true (sym t));
+      rest = refl;
+      fits = λ _. omega arith;
+    }
+
+-- ---- a row, read
+
+abbrev noReduce : coded.Reduce
+noReduce = record { rule = record { 0 = 0 }; offset = 0 }
+
+-- these reduces are the pairs of the row from word `at` on
+abbrev pub Pairs : List ℕ → ℕ → List coded.Reduce → Type 0
+Pairs row at [] = Unit {0}
+Pairs row at (r ∷ rs) = (reduceIs r ≡ record { rule = getD row at 0; offset = getD row (at + 1) 0 }) × Pairs row (at + 2) rs
+
+pairs-read : (row : List ℕ) (n at : ℕ) (rs : List coded.Reduce) → n ≤ length rs → Pairs row at rs → map reduceIs (take n rs) ≡ reducesOf n (drop at row)
+unfolding reducesOf
+pairs-read row zero at rs l h = refl
+pairs-read row (suc n) at [] l h = absurd (not-suc-le-zero l)
+pairs-read row (suc n) at (r ∷ rs) l h =
+    let z : at + 0 ≡ at = omega arith in
+    rw (h .0, pairs-read row n (at + 2) rs (le-of-suc-le-suc l) (h .1), getD-drop at row 0 0, getD-drop at row 1 0, drop-drop 2 at row, z)
+
+reduces-length : (n : ℕ) (ws : List ℕ) → length (reducesOf n ws) ≡ n
+unfolding reducesOf
+reduces-length zero ws = refl
+reduces-length (suc n) ws = ap suc (reduces-length n (drop 2 ws))
+
+pub row-read : (row : List ℕ) (rs : List coded.Reduce) → length rs ≡ 5 → length (edgeOf row .reduces) ≤ 5 → Pairs row 5 rs
+    → Holds (record { from = record { 0 = getD row 0 0 }; kind = getD row 1 0; symbol = record { 0 = getD row 2 0 }; to = record { 0 = getD row 3 0 }; count = getD row 4 0; reduces = rs }) (edgeOf row)
+unfolding edgeOf
+row-read row rs l h p =
+    let many = reduces-length (getD row 4 0) (drop 5 row) in
+    record { says = rw (pairs-read row (getD row 4 0) 5 rs (omega arith) p); counted = sym many; fits = omega arith }
+
+-- ---- a row, written
+
+-- the reduce at place k, or zeros
+pub place-used : (e : held.Edge) (k : ℕ) → k < e .count → getD (edgeIs e .reduces) k (reduceIs noReduce) ≡ reduceIs (getD (e .reduces) k noReduce)
+place-used e k h = List·getD-map reduceIs (take (e .count) (e .reduces)) k noReduce ∙ ap reduceIs (getD-take (e .count) (e .reduces) k noReduce h)
+
+pub place-unused : (e : held.Edge) (k : ℕ) → e .count ≤ k → getD (edgeIs e .reduces) k (reduceIs noReduce) ≡ reduceIs noReduce
+place-unused e k h = List·getD-eq-default (edgeIs e .reduces) (reduceIs noReduce) (rw (length-map, length-take) (omega arith))
+
+-- the words of pair number k
+pair-words : (n k : ℕ) (ds : List Reduce) → k < n
+    → (getD (reduceWords n ds) (2 * k) 0 ≡ getD ds k (reduceIs noReduce) .rule) × (getD (reduceWords n ds) (suc (2 * k)) 0 ≡ getD ds k (reduceIs noReduce) .offset)
+unfolding reduceWords
+pair-words zero k ds h = absurd (not-suc-le-zero h)
+pair-words (suc n) zero [] h = (refl, refl)
+pair-words (suc n) zero (d ∷ ds) h = (refl, refl)
+pair-words (suc n) (suc k) [] h =
+    let two : 2 * suc k ≡ suc (suc (2 * k)) = omega arith in
+    rw two (pair-words n k [] (le-of-suc-le-suc h))
+pair-words (suc n) (suc k) (d ∷ ds) h =
+    let two : 2 * suc k ≡ suc (suc (2 * k)) = omega arith in
+    rw two (pair-words n k ds (le-of-suc-le-suc h))
+
+-- the zero after them
+last-word : (n : ℕ) (ds : List Reduce) → getD (reduceWords n ds) (2 * n) 0 ≡ 0
+unfolding reduceWords
+last-word zero ds = refl
+last-word (suc n) [] = let two : 2 * suc n ≡ suc (suc (2 * n)) = omega arith in rw two (last-word n [])
+last-word (suc n) (d ∷ ds) = let two : 2 * suc n ≡ suc (suc (2 * n)) = omega arith in rw two (last-word n ds)
+
+module _ (e : Edge) (k : ℕ) (h : k < 5) where
+  pub rule-word : getD (rowWords e) (5 + 2 * k) 0 ≡ getD (e .reduces) k (reduceIs noReduce) .rule
+  unfolding rowWords
+  rule-word =
+      let five : 5 + 2 * k ≡ suc (suc (suc (suc (suc (2 * k))))) = omega arith in
+      rw five (pair-words 5 k (e .reduces) h .0)
+
+  pub offset-word : getD (rowWords e) (6 + 2 * k) 0 ≡ getD (e .reduces) k (reduceIs noReduce) .offset
+  unfolding rowWords
+  offset-word =
+      let six : 6 + 2 * k ≡ suc (suc (suc (suc (suc (suc (2 * k)))))) = omega arith in
+      rw six (pair-words 5 k (e .reduces) h .1)
+
+-- one word more of what is to be written
+pub written-more : (row T : List ℕ) (m x : ℕ) → take m row ≡ take m T → m < length row → m < length T → x ≡ getD T m 0 → take (suc m) (set row m x) ≡ take (suc m) T
+written-more row T m x h a b e = rw (take-suc-set row m x a, take-suc T m 0 b, h, e)
+
+-- the first five words, stored one by one
+pub written-head : (row : List ℕ) (e : held.Edge) → length row ≡ 16 → length (e .reduces) ≡ 5 → e .count ≤ 5
+    → take 5 (sets row 0 (e .from .0 ∷ e .kind ∷ e .symbol .0 ∷ e .to .0 ∷ e .count ∷ [])) ≡ take 5 (rowWords (edgeIs e))
+unfolding rowWords
+written-head row e l q h =
+    let many : length (edgeIs e .reduces) ≡ e .count = rw (length-map, length-take-le (e .count) (e .reduces) (omega arith)) in
+    rw (sets-eq (e .from .0 ∷ e .kind ∷ e .symbol .0 ∷ e .to .0 ∷ e .count ∷ []) row 0 (omega arith), many)
+
+-- a turn: two words more
+pub written-pair : (row : List ℕ) (e : Edge) (k : ℕ) → k < 5 → length row ≡ 16 → take (5 + 2 * k) row ≡ take (5 + 2 * k) (rowWords e)
+    → take (5 + 2 * (k + 1)) (set (set row (5 + 2 * k) (getD (e .reduces) k (reduceIs noReduce) .rule)) (6 + 2 * k) (getD (e .reduces) k (reduceIs noReduce) .offset))
+    ≡ take (5 + 2 * (k + 1)) (rowWords e)
+written-pair row e k h l t =
+    let T = rowWords e in
+    let r = getD (e .reduces) k (reduceIs noReduce) in
+    let len = row-length e in
+    let six : suc (5 + 2 * k) ≡ 6 + 2 * k = omega arith in
+    let two : 5 + 2 * (k + 1) ≡ suc (6 + 2 * k) = omega arith in
+    let one : take (6 + 2 * k) (set row (5 + 2 * k) (r .rule)) ≡ take (6 + 2 * k) T =
+    rw six at (written-more row T (5 + 2 * k) (r .rule) t (omega arith) (omega arith) (sym (rule-word e k h))) in
+    rw two (written-more (set row (5 + 2 * k) (r .rule)) T (6 + 2 * k) (r .offset) one (simp length-set (omega arith)) (omega arith) (sym (offset-word e k h)))
+
+-- the last word
+pub written-all : (row : List ℕ) (e : Edge) → length row ≡ 16 → take 15 row ≡ take 15 (rowWords e) → set row 15 0 ≡ rowWords e
+unfolding rowWords
+written-all row e l t =
+    let T = rowWords e in
+    let len = row-length e in
+    let done : take 16 (set row 15 0) ≡ take 16 T = written-more row T 15 0 t (omega arith) (omega arith) (sym (last-word 5 (e .reduces))) in
+    sym (take-all 16 (set row 15 0) (simp length-set (omega arith))) ∙ done ∙ take-all 16 T (omega arith)
+
+-- a part of 16 words, put back
+pub put-row : (ws row : List ℕ) (a : ℕ) → putMid a (a + 16 - a) ws row ≡ take a ws ++ (row ++ drop (a + 16) ws)
+put-row ws row a = let e : a + 16 - a ≡ 16 = omega arith in rw (e, drop-drop)

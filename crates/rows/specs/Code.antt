@@ -1,0 +1,65 @@
+-- What the code's structs and answers stand for.
+use Prim.Native.Nat.{ℕ, _+_, _*_, _≤_}
+use mathlib.Core.Path.{_≡_}
+use mathlib.Core.Bool.{true, false}
+use mathlib.Core.List.{List, [], _∷_, _++_, map}
+use mathlib.Core.Option.{none, some}
+use lib.ListN.{length, take, drop}
+use Rattle.words.specs.Limits.{rowWidth, mostReduces}
+use Rattle.words.specs.Outcome.{pick}
+use Rattle.rows.specs.Rows.{Reduce, Edge, edgesOf, rowWords, keyed, withReduce}
+use Rattle.rows.specs.declared.Reduce as coded
+use Rattle.rows.specs.declared.Edge as held
+use Rattle.rows.specs.declared.Added.{Added}
+use Rattle.rows.specs.declared.Found.{Found}
+use Rattle.rows.specs.declared.Found.the-variants.{Row, Nothing}
+
+abbrev pub reduceIs : coded.Reduce → Reduce
+reduceIs d = record { rule = d .rule .0; offset = d .offset }
+
+-- the first `count` of the five places are the edge's reduces
+abbrev pub edgeIs : held.Edge → Edge
+edgeIs e = record {
+  from = e .from .0;
+  kind = e .kind;
+  sym = e .symbol .0;
+  to = e .to .0;
+  reduces = map reduceIs (take (e .count) (e .reduces));
+}
+
+-- the edge held stands for e, and its count is one that there may be
+pub record Holds (h : held.Edge) (e : Edge) : Type 0 where
+  pub says : edgeIs h ≡ e
+  pub counted : h .count ≡ length (e .reduces)
+  pub fits : h .count ≤ mostReduces
+
+-- ---- reduce lists
+
+abbrev pub withReduces : Edge → List Reduce → Edge
+withReduces e ds = record { from = e .from; kind = e .kind; sym = e .sym; to = e .to; reduces = ds }
+
+-- what is given back for an edge h and a reduce d: h with d first, or refused and h as it was
+pub record Adds (h : held.Edge) (d : Reduce) (a : Added) : Type 0 where
+  pub gives : a .ok ≡ true → withReduce d (edgeIs h .reduces) ≡ some (edgeIs (a .edge) .reduces)
+  pub refuses : a .ok ≡ false → (withReduce d (edgeIs h .reduces) ≡ none) × (a .edge ≡ h)
+  pub rest : edgeIs (a .edge) ≡ withReduces (edgeIs h) (edgeIs (a .edge) .reduces)
+  pub fits : h .count ≤ mostReduces → a .edge .count ≤ mostReduces
+
+-- ---- rows by number
+
+-- the words of row i
+abbrev pub rowAt : List ℕ → ℕ → List ℕ
+rowAt ws i = take rowWidth (drop (rowWidth * i) ws)
+
+-- the words with row i written for e, the others as they were
+abbrev pub written : List ℕ → ℕ → Edge → List ℕ
+written ws i e = take (rowWidth * i) ws ++ (rowWords e ++ drop (rowWidth * i + rowWidth) ws)
+
+-- the number of the first of these edges with the key, counted from i
+unfoldable pub numbered : ℕ → ℕ → ℕ → ℕ → List Edge → Found
+numbered n k s i [] = Nothing
+numbered n k s i (e ∷ es) = pick (keyed n k s e) (Row i) (numbered n k s (i + 1) es)
+
+-- the row that a look-up gives back
+abbrev pub looksUp : List ℕ → ℕ → ℕ → ℕ → Found
+looksUp ws n k s = numbered n k s 0 (edgesOf ws)
