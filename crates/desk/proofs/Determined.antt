@@ -1,10 +1,13 @@
--- Two results that meet an entry point's contract coincide.
+-- Two results that meet an entry point's contract coincide, every word of every slice lent for writing included.
 use mathlib.Core.Path.{_≡_}
 use denote.Ref.{now}
 use Rattle.rules.specs.Code.{stretchOf}
+use Rattle.desk.specs.Code.{builtIs, verifiedIs}
 use Rattle.desk.specs.laws.Promises.{determined}
 use Rattle.desk.proofs.body.Reads as body
 use Rattle.desk.proofs.body_stretch.Reads as body-stretch
+use Rattle.desk.proofs.build.Reads as build
+use Rattle.desk.proofs.verify.Reads as verify
 
 pub body-determined : (κs : _) (args : _) (r₁ r₂ : _) (x₁ x₂ : _) → body.Post κs args r₁ x₁ → body.Post κs args r₂ x₂ → now r₁ ≡ now r₂
 body-determined κs args r₁ r₂ x₁ x₂ m n = determined m n
@@ -12,3 +15,13 @@ body-determined κs args r₁ r₂ x₁ x₂ m n = determined m n
 pub stretch-determined : (κs : _) (args : _) (r₁ r₂ : _) (x₁ x₂ : _) → body-stretch.Post κs args r₁ x₁ → body-stretch.Post κs args r₂ x₂
     → stretchOf r₁ ≡ stretchOf r₂
 stretch-determined κs args r₁ r₂ x₁ x₂ m n = determined m n
+
+-- the third and the fourth parameter are the two tables
+pub build-determined : (κs : _) (args : _) (r₁ r₂ : _) (x₁ x₂ : _) → build.Post κs args r₁ x₁ → build.Post κs args r₂ x₂
+    → builtIs r₁ (now (x₁ .1 .1 .0)) (now (x₁ .1 .1 .1 .0)) ≡ builtIs r₂ (now (x₂ .1 .1 .0)) (now (x₂ .1 .1 .1 .0))
+build-determined κs args r₁ r₂ x₁ x₂ m n = determined m n
+
+-- the fifth is the work slice
+pub verify-determined : (κs : _) (args : _) (r₁ r₂ : _) (x₁ x₂ : _) → verify.Post κs args r₁ x₁ → verify.Post κs args r₂ x₂
+    → verifiedIs r₁ (now (x₁ .1 .1 .1 .1 .0)) ≡ verifiedIs r₂ (now (x₂ .1 .1 .1 .1 .0))
+verify-determined κs args r₁ r₂ x₁ x₂ m n = determined m n

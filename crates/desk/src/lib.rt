@@ -1,9 +1,35 @@
 // The entry points. None asks anything of its caller: any words may come in any slice.
 ghost use mathlib.Core.Path.{_≡_};
-ghost use lib.ListN.{length};
+ghost use mathlib.Core.Bool.{true};
+ghost use Prim.Native.Nat.{_≤_};
+ghost use lib.ListN.{length, getD};
+ghost use Rattle.words.specs.Outcome.{firstFault};
 ghost use Rattle.rules.specs.Rules.{cut};
 ghost use Rattle.rules.specs.Code.{stretchOf};
-ghost use Rattle.desk.specs.Entry.{bodyGives};
+ghost use Rattle.walk.specs.Walk.{wantedOf};
+ghost use Rattle.tree.specs.Code.{faultOf, roomOf};
+ghost use Rattle.words.specs.Numbers.{faultNumber};
+ghost use Rattle.desk.specs.Entry.{lesser, bodyGives, buildRoom, buildGives, verifyDemands, verifyGives};
+ghost use Rattle.desk.specs.Code.{verifiedIs, builtIs, Raised};
+
+// What a parse or a check answers: the number, the place, the length of the list and the passes.
+#[repr(C)]
+pub struct Answer {
+    pub number: u32,
+    pub place: u32,
+    pub length: u32,
+    pub passes: u32,
+}
+
+// What a build answers: the number, and the counts of nodes and edges.
+#[repr(C)]
+pub struct Made {
+    pub number: u32,
+    pub nodes: u32,
+    pub edges: u32,
+}
+
+// ---- body
 
 // The body pairs of rule `no`, as that stretch of the caller's rules; an empty one where the rules are bad or have no such rule.
 pub fn body(codes: rules::Codes, rules: &[u32], no: words::RuleNo) -> &[u32]
@@ -17,4 +43,134 @@ pub fn body_stretch(codes: rules::Codes, rules: &[u32], no: words::RuleNo) -> ru
     ensures { λ r. ⌜ stretchOf r ≡ bodyGives (codes .provable .0) (codes .logic .0) (now (rules .entry)) (no .0) ⌝ }
 {
     rules::stretch_of(rules, codes, no)
+}
+
+// ---- build
+
+fn lesser(a: usize, b: usize) -> usize
+    ensures { λ r. ⌜ r ≡ lesser a b ⌝ }
+{
+    if a <= b {
+        return a;
+    }
+    b
+}
+
+// The room of two slices: their whole rows, or the limits.
+fn build_room(nodes: usize, edges: usize) -> tree::Room
+    ensures { λ r. ⌜ roomOf r ≡ buildRoom nodes edges ⌝ }
+{
+    tree::Room {
+        nodes: lesser(nodes, words::MOST_NODES),
+        edges: lesser(edges / words::ROW_WIDTH, words::MOST_EDGES),
+    }
+}
+
+fn fault_number(f: tree::Fault) -> u32
+    ensures { λ r. ⌜ r ≡ faultNumber (faultOf f) ⌝ }
+{
+    match f {
+        tree::Fault::Collides => 11,
+        tree::Fault::NoNode => 12,
+        tree::Fault::NoEdge => 13,
+        tree::Fault::SixthReduce => 14,
+        tree::Fault::BadCopy => 16,
+    }
+}
+
+// The tables at the front of the two slices: what stands after them is not said.
+fn raise(codes: rules::Codes, rules: &[u32], nodes: &mut [u32], edges: &mut [u32]) -> Made
+    ensures { λ r. ⌜ Raised (buildGives (codes .provable .0) (codes .logic .0) (now (rules .entry)) (length (now (nodes .entry))) (length (now (edges .entry))))
+        r (now (nodes .exit)) (now (edges .exit)) ⌝ }
+{
+    if !rules::rules_good(rules, codes) {
+        return Made {
+            number: 10,
+            nodes: 0,
+            edges: 0,
+        };
+    }
+    let room = build_room(nodes.len(), edges.len());
+    match tree::grow(rules, room, nodes, edges) {
+        tree::Grew::On(c) => Made {
+            number: 0,
+            nodes: c.nodes as u32,
+            edges: c.edges as u32,
+        },
+        tree::Grew::Refused(f) => Made {
+            number: fault_number(f),
+            nodes: 0,
+            edges: 0,
+        },
+    }
+}
+
+// The tree of the rules, in two slices of any length and content. A refused build leaves both zero, a good one zeros past its rows.
+pub fn build(codes: rules::Codes, rules: &[u32], nodes: &mut [u32], edges: &mut [u32]) -> Made
+    ensures { λ r. ⌜ builtIs r (now (nodes .exit)) (now (edges .exit))
+        ≡ buildGives (codes .provable .0) (codes .logic .0) (now (rules .entry)) (length (now (nodes .entry))) (length (now (edges .entry))) ⌝ }
+{
+    let m = raise(codes, rules, nodes, edges);
+    let n = m.nodes as usize;
+    let e = words::ROW_WIDTH * (m.edges as usize);
+    words::clear_from(nodes, n);
+    words::clear_from(edges, e);
+    m
+}
+
+// ---- verify
+
+// The typecode that a statement wants: the logic one where the provable one is stated.
+fn wanted(codes: rules::Codes, stated: u32) -> words::SymbolNo
+    ensures { λ r. ⌜ r .0 ≡ wantedOf (codes .provable .0) (codes .logic .0) stated ⌝ }
+{
+    if stated == codes.provable.0 {
+        return codes.logic;
+    }
+    words::SymbolNo(stated)
+}
+
+// The number alone: what stands in the work slice afterwards is not said.
+fn judge(codes: rules::Codes, rules: &[u32], tokens: &[u32], list: &[u32], work: &mut [u32]) -> u32
+    ensures { λ r. ⌜ r ≡ firstFault (verifyDemands (codes .provable .0) (codes .logic .0) (now (rules .entry)) (now (tokens .entry)) (now (list .entry))
+        (length (now (work .entry)))) ⌝ }
+{
+    if !rules::rules_good(rules, codes) {
+        return 10;
+    }
+    if tokens.len() < 2 {
+        return 1;
+    }
+    if words::MOST_TOKENS < tokens.len() {
+        return 9;
+    }
+    if work.len() < list.len() {
+        return 7;
+    }
+    let goal = wanted(codes, tokens[0]);
+    if !formula::check(rules, goal, &tokens[1..], list, work) {
+        return 4;
+    }
+    0
+}
+
+// The check alone: whether the list is a well typed tree of the stated typecode that spells the statement.
+pub fn verify(
+    codes: rules::Codes,
+    rules: &[u32],
+    tokens: &[u32],
+    list: &[u32],
+    work: &mut [u32],
+) -> Answer
+    ensures { λ r. ⌜ verifiedIs r (now (work .exit))
+        ≡ verifyGives (codes .provable .0) (codes .logic .0) (now (rules .entry)) (now (tokens .entry)) (now (list .entry)) (length (now (work .entry))) ⌝ }
+{
+    let number = judge(codes, rules, tokens, list, work);
+    words::clear(work);
+    Answer {
+        number,
+        place: 0,
+        length: 0,
+        passes: 0,
+    }
 }

@@ -1,4 +1,5 @@
 pub mod Meaning
 pub mod Check
 pub mod Reducing
+pub mod Code
 pub mod laws

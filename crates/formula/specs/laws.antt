@@ -3,4 +3,5 @@ pub mod Down
 pub mod Turns
 pub mod Flat
 pub mod Reduce
+pub mod Held
 pub mod Examples

@@ -1,1 +1,318 @@
-// formula
+// A formula's postfix list in lent slices: reducing, and the check.
+ghost use mathlib.Core.Path.{_≡_};
+ghost use mathlib.Core.List.{[], _∷_, _++_};
+ghost use Prim.Native.Nat.{_+_, _-_, _≤_, _<_};
+ghost use lib.ListN.{length, take, drop};
+ghost use mathlib.Core.Bool.{true};
+ghost use Rattle.words.specs.Limits.{mostReduces};
+ghost use Rattle.rules.specs.Rules.{ruleOf, theRules};
+ghost use Rattle.rules.specs.Code.{aRule, someRules};
+ghost use Rattle.rows.specs.Code.{edgeIs};
+ghost use Rattle.formula.specs.Reducing.{merge, reduce, reduceAll};
+ghost use Rattle.formula.specs.Code.{mostRoom, treesOf, Inside, Stands, Gives, itemIs, Whole, Stacked, Turned, Fills, Meets, stillOf};
+ghost use Rattle.formula.specs.Check.{check};
+ghost use Rattle.formula.specs.laws.Flat.{total};
+
+// The trees of a walk. The first `len` words of the list are theirs, the first `count` words of the work slice their sizes, the bottom
+// tree's first.
+pub struct Trees {
+    pub count: usize,
+    pub len: usize,
+}
+
+pub enum Reduced {
+    Done(Trees),
+    TooFew,
+    Full,
+}
+
+// ---- reducing
+
+fn total(sizes: &[u32]) -> u32
+    requires { ⌜ total (now sizes) ≤ mostRoom ⌝ }
+    ensures { λ r. ⌜ r ≡ total (now (sizes .entry)) ⌝ }
+{
+    let mut n: u32 = 0;
+    let mut i = 0;
+    while i < sizes.len() {
+        n += sizes[i];
+        i += 1;
+    }
+    n
+}
+
+// The words from `from` on, of the first `n`, come to stand at `to`.
+fn move_down(s: &mut [u32], n: usize, from: usize, to: usize)
+    requires { ⌜ (to ≤ from) × (from ≤ n) × (n ≤ length (now s)) ⌝ }
+    ensures { λ _. ⌜ take (to + (n - from)) (now (s .exit)) ≡ take to (now (s .entry)) ++ drop from (take n (now (s .entry))) ⌝ }
+{
+    let mut i = from;
+    let mut j = to;
+    while i < n {
+        s[j] = s[i];
+        i += 1;
+        j += 1;
+    }
+}
+
+// Of the first `count` sizes, the `k` from `at` on become one.
+fn replace(work: &mut [u32], count: usize, at: usize, k: usize, size: u32)
+    requires { ⌜ (at + k ≤ count) × (count < length (now work)) ⌝ }
+    ensures { λ _. ⌜ take (count + 1 - k) (now (work .exit)) ≡ take at (now (work .entry)) ++ size ∷ drop (at + k) (take count (now (work .entry))) ⌝ }
+{
+    words::insert(work, count, at + k, size);
+    move_down(work, count + 1, at + k, at);
+}
+
+// The `k` trees under the top `o` become one, of this rule.
+fn merge(
+    room: usize,
+    list: &mut [u32],
+    work: &mut [u32],
+    s: Trees,
+    rule: words::RuleNo,
+    k: usize,
+    o: usize,
+) -> Trees
+    requires { ⌜ Inside room s (now list) (now work) × (o + k ≤ s .count) × (s .len < room) ⌝ }
+    ensures { λ r. ⌜ Stands room r (now (list .exit)) (now (work .exit)) (merge (rule .0) k o (treesOf s (now (list .entry)) (now (work .entry)))) ⌝ }
+{
+    let count = s.count;
+    let len = s.len;
+    let under = count - o;
+    let below = under - k;
+    let place = len - (total(&work[under..count]) as usize);
+    let size = total(&work[below..under]) + 1;
+    words::insert(list, len, place, rule.0);
+    replace(work, count, below, k, size);
+    Trees {
+        count: count + 1 - k,
+        len: len + 1,
+    }
+}
+
+// The rule is reduced under the top `offset` trees: too few trees before a full list. A rule that is not there has too few.
+pub fn reduce(
+    rules: &[u32],
+    room: usize,
+    list: &mut [u32],
+    work: &mut [u32],
+    s: Trees,
+    rule: words::RuleNo,
+    offset: u32,
+) -> Reduced
+    requires { ⌜ (someRules (now rules) ≡ true) × Inside room s (now list) (now work) ⌝ }
+    ensures { λ r. ⌜ Gives room r (now (list .exit)) (now (work .exit))
+        (reduce (theRules (now (rules .entry))) room (rule .0) offset (treesOf s (now (list .entry)) (now (work .entry)))) ⌝ }
+{
+    let rules::Start::At(i) = rules::find_rule(rules, rule) else {
+        return Reduced::TooFew;
+    };
+    let k = rules::slots_of(&rules[i..]) as usize;
+    let o = offset as usize;
+    let needed = o + k;
+    if s.count < needed {
+        return Reduced::TooFew; // for its slots and the offset
+    }
+    if room <= s.len {
+        return Reduced::Full; // for the rule itself
+    }
+    let t = merge(room, list, work, s, rule, k, o);
+    Reduced::Done(t)
+}
+
+// The reduces of an edge, in order: the first that fails decides.
+pub fn reduce_all(
+    rules: &[u32],
+    room: usize,
+    list: &mut [u32],
+    work: &mut [u32],
+    s: Trees,
+    e: rows::Edge,
+) -> Reduced
+    requires { ⌜ (someRules (now rules) ≡ true) × Inside room s (now list) (now work) × (e .count ≤ mostReduces) ⌝ }
+    ensures { λ r. ⌜ Gives room r (now (list .exit)) (now (work .exit))
+        (reduceAll (theRules (now (rules .entry))) room (edgeIs e .reduces) (treesOf s (now (list .entry)) (now (work .entry)))) ⌝ }
+{
+    let n = e.count as usize;
+    let mut out = s;
+    let mut k: usize = 0;
+    while k < n {
+        let d = rows::reduce_of(e, k);
+        let r = reduce(rules, room, list, work, out, d.rule, d.offset);
+        match r {
+            Reduced::Done(t) => {
+                out = t;
+            }
+            Reduced::TooFew => {
+                return Reduced::TooFew;
+            }
+            Reduced::Full => {
+                return Reduced::Full;
+            }
+        }
+        k += 1;
+    }
+    Reduced::Done(out)
+}
+
+// ---- the check
+
+// More than a body has items.
+const PLACES: u32 = 64;
+
+// The bodies that are pending, and the tokens and entries that are left.
+struct Seek {
+    depth: usize,
+    token: usize,
+    entry: usize,
+}
+
+enum Turn {
+    On(Seek),
+    Ended(bool),
+}
+
+enum Item {
+    Con(words::SymbolNo),
+    Slot(words::SymbolNo),
+}
+
+// The last of the first `left` items of the rule that stands first.
+fn last_item(s: &[u32], left: usize) -> Item
+    requires { ⌜ (aRule (now s) ≡ true) × (1 ≤ left) × (left ≤ length (ruleOf (now s) .body)) ⌝ }
+    ensures { λ r. ⌜ take left (ruleOf (now (s .entry)) .body) ≡ take (left - 1) (ruleOf (now (s .entry)) .body) ++ itemIs r ∷ [] ⌝ }
+{
+    let body = rules::body_of(s);
+    let at = words::ITEM_WIDTH * (left - 1);
+    let symbol = words::SymbolNo(body[at + 1]);
+    if body[at] == 0 {
+        return Item::Con(symbol);
+    }
+    Item::Slot(symbol)
+}
+
+// The body of the rule at word `i`, none of it met, as one word.
+fn whole_body(rules: &[u32], i: usize) -> u32
+    requires { ⌜ (someRules (now rules) ≡ true) × (i ≤ length (now rules)) × (aRule (drop i (now rules)) ≡ true) ⌝ }
+    ensures { λ r. ⌜ Whole (now (rules .entry)) i r ⌝ }
+{
+    let body = rules::body_of(&rules[i..]);
+    let items = (body.len() / words::ITEM_WIDTH) as u32;
+    (i as u32) * PLACES + items
+}
+
+// A constant: the last token left must be it.
+fn meet(tokens: &[u32], s: Seek, symbol: words::SymbolNo) -> Turn
+    requires { ⌜ s .token ≤ length (now tokens) ⌝ }
+    ensures { λ r. ⌜ Meets (now (tokens .entry)) (symbol .0) s r ⌝ }
+{
+    let token = s.token;
+    if token == 0 {
+        return Turn::Ended(false);
+    }
+    if tokens[token - 1] != symbol.0 {
+        return Turn::Ended(false);
+    }
+    Turn::On(Seek {
+        depth: s.depth,
+        token: token - 1,
+        entry: s.entry,
+    })
+}
+
+// A slot: the last entry left must name a rule with this result, whose body is pending then.
+fn fill(rules: &[u32], list: &[u32], work: &mut [u32], s: Seek, wanted: words::SymbolNo) -> Turn
+    requires { ⌜ (someRules (now rules) ≡ true) × Stacked (now rules) (now list) s (now work) ⌝ }
+    ensures { λ r. ⌜ Fills (now (rules .entry)) (now (list .entry)) (wanted .0) s (now (work .entry)) r (now (work .exit)) ⌝ }
+{
+    let entry = s.entry;
+    if entry == 0 {
+        return Turn::Ended(false);
+    }
+    let rules::Start::At(i) = rules::find_rule(rules, words::RuleNo(list[entry - 1])) else {
+        return Turn::Ended(false);
+    };
+    let result = rules::result_of(&rules[i..]);
+    if result.0 != wanted.0 {
+        return Turn::Ended(false);
+    }
+    let depth = s.depth;
+    work[depth] = whole_body(rules, i);
+    Turn::On(Seek {
+        depth: depth + 1,
+        token: s.token,
+        entry: entry - 1,
+    })
+}
+
+// One turn: a body that is all met is taken off, else its last item is met.
+fn take_turn(rules: &[u32], tokens: &[u32], list: &[u32], work: &mut [u32], s: Seek) -> Turn
+    requires { ⌜ (someRules (now rules) ≡ true) × Stacked (now rules) (now list) s (now work) × (s .token ≤ length (now tokens)) ⌝ }
+    ensures { λ r. ⌜ Turned (now (rules .entry)) (now (tokens .entry)) (now (list .entry)) s
+        (stillOf (now (rules .entry)) (now (tokens .entry)) (now (list .entry)) s (now (work .entry))) r (now (work .exit)) ⌝ }
+{
+    let depth = s.depth;
+    if depth == 0 {
+        return Turn::Ended(s.entry == 0 && s.token == 0);
+    }
+    let top = depth - 1;
+    let w = work[top];
+    let left = (w % PLACES) as usize;
+    if left == 0 {
+        return Turn::On(Seek {
+            depth: top,
+            token: s.token,
+            entry: s.entry,
+        });
+    }
+    let i = (w / PLACES) as usize;
+    let item = last_item(&rules[i..], left);
+    work[top] = w - 1;
+    match item {
+        Item::Con(symbol) => meet(tokens, s, symbol),
+        Item::Slot(wanted) => fill(rules, list, work, s, wanted),
+    }
+}
+
+// Turns until one ends.
+fn run(rules: &[u32], tokens: &[u32], list: &[u32], work: &mut [u32], start: Seek) -> bool
+    requires { ⌜ (someRules (now rules) ≡ true) × Stacked (now rules) (now list) start (now work) × (start .token ≤ length (now tokens)) ⌝ }
+    ensures { λ r. ⌜ r ≡ stillOf (now (rules .entry)) (now (tokens .entry)) (now (list .entry)) start (now (work .entry)) ⌝ }
+{
+    let mut s = start;
+    loop {
+        let turn = take_turn(rules, tokens, list, work, s);
+        match turn {
+            Turn::On(q) => {
+                s = q;
+            }
+            Turn::Ended(b) => {
+                return b;
+            }
+        }
+    }
+}
+
+// Whether the list is one well typed tree of typecode `goal` that spells the tokens: once over both, from their ends.
+pub fn check(
+    rules: &[u32],
+    goal: words::SymbolNo,
+    tokens: &[u32],
+    list: &[u32],
+    work: &mut [u32],
+) -> bool
+    requires { ⌜ (someRules (now rules) ≡ true) × (length (now list) ≤ length (now work)) ⌝ }
+    ensures { λ r. ⌜ r ≡ check (theRules (now (rules .entry))) (goal .0) (now (tokens .entry)) (now (list .entry)) ⌝ }
+{
+    let start = Seek {
+        depth: 0,
+        token: tokens.len(),
+        entry: list.len(),
+    };
+    let first = fill(rules, list, work, start, goal);
+    match first {
+        Turn::On(s) => run(rules, tokens, list, work, s),
+        Turn::Ended(b) => b,
+    }
+}

@@ -195,7 +195,14 @@ reduces-length zero ws = refl
 reduces-length (suc n) ws = ap suc (reduces-length n (drop 2 ws))
 
 pub row-read : (row : List ℕ) (rs : List coded.Reduce) → length rs ≡ 5 → length (edgeOf row .reduces) ≤ 5 → Pairs row 5 rs
-    → Holds (record { from = record { 0 = getD row 0 0 }; kind = getD row 1 0; symbol = record { 0 = getD row 2 0 }; to = record { 0 = getD row 3 0 }; count = getD row 4 0; reduces = rs }) (edgeOf row)
+    → Holds (record {
+      from = record { 0 = getD row 0 0 };
+      kind = getD row 1 0;
+      symbol = record { 0 = getD row 2 0 };
+      to = record { 0 = getD row 3 0 };
+      count = getD row 4 0;
+      reduces = rs;
+    }) (edgeOf row)
 unfolding edgeOf
 row-read row rs l h p =
     let many = reduces-length (getD row 4 0) (drop 5 row) in
@@ -245,7 +252,8 @@ module _ (e : Edge) (k : ℕ) (h : k < 5) where
       rw six (pair-words 5 k (e .reduces) h .1)
 
 -- one word more of what is to be written
-pub written-more : (row T : List ℕ) (m x : ℕ) → take m row ≡ take m T → m < length row → m < length T → x ≡ getD T m 0 → take (suc m) (set row m x) ≡ take (suc m) T
+pub written-more : (row T : List ℕ) (m x : ℕ) → take m row ≡ take m T → m < length row → m < length T → x ≡ getD T m 0
+    → take (suc m) (set row m x) ≡ take (suc m) T
 written-more row T m x h a b e = rw (take-suc-set row m x a, take-suc T m 0 b, h, e)
 
 -- the first five words, stored one by one

@@ -4,7 +4,6 @@ ghost use mathlib.Core.Bool.{not};
 ghost use Prim.Native.Nat.{_+_, _/_, _≤_, _<_};
 ghost use lib.ListN.{length, getD};
 ghost use Rattle.words.specs.Limits.{rowWidth, mostReduces, mostOffset};
-ghost use Rattle.rules.specs.Rules.{symbol};
 ghost use Rattle.rows.specs.Rows.{edgeOf, edgesOf, rowWords, keyed, bare, goodNodes, goodPair, rootToLeaf, goodEnds, nodesGood, edgesGood, tablesGood};
 ghost use Rattle.rows.specs.Code.{reduceIs, edgeIs, Holds, Adds, rowAt, written, looksUp};
 
@@ -206,16 +205,6 @@ pub fn leaves(edges: &[u32], from: words::NodeNo) -> bool
 
 // ---- the table check
 
-// A symbol or a typecode.
-fn symbol(x: u32) -> bool
-    ensures { λ r. ⌜ r ≡ symbol x ⌝ }
-{
-    if x < 1 {
-        return false;
-    }
-    x <= words::MOST_SYMBOL
-}
-
 // Whether each node is a branch or the leaf of a rule that there is.
 fn good_nodes(rules: u32, nodes: &[u32]) -> bool
     ensures { λ r. ⌜ r ≡ goodNodes rules (now (nodes .entry)) ⌝ }
@@ -295,7 +284,7 @@ fn good_ends(nodes: &[u32], row: &[u32]) -> bool
     if 1 < row[1] {
         return false;
     }
-    if !symbol(row[2]) {
+    if !rules::symbol(row[2]) {
         return false;
     }
     if to == 0 {

@@ -8,7 +8,7 @@ use lib.ListN.{length, drop}
 use Rattle.words.specs.Limits.{mostRules}
 use Rattle.words.specs.Outcome.{pick}
 use Rattle.words.specs.declared.RuleNo.{RuleNo}
-use Rattle.rules.specs.Rules.{Item, Rule, sizeOf, theRules, ruleOf, ruleAt, goodRule, goodRules, rulesGood, Stretch, noStretch, stretchFrom}
+use Rattle.rules.specs.Rules.{sizeOf, theRules, ruleOf, ruleAt, goodRule, goodRules, rulesGood, Stretch, noStretch, stretchFrom}
 use Rattle.rules.specs.declared.Codes.{Codes}
 use Rattle.rules.specs.declared.First.{First}
 use Rattle.rules.specs.declared.First.the-variants.{Size, Bad}

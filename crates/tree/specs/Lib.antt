@@ -1,2 +1,3 @@
 pub mod Grow
+pub mod Code
 pub mod laws

@@ -102,10 +102,10 @@ pub record Wider (s s′ : Lent) : Type 0 where
   pub list : s .list ≤ s′ .list
   pub work : s .work ≤ s′ .work
 
-lesser-le : (a b : ℕ) → (lesser a b ≤ a) × (lesser a b ≤ b)
+pub lesser-le : (a b : ℕ) → (lesser a b ≤ a) × (lesser a b ≤ b)
 lesser-le a b = by-test (λ n. (n ≤ a) × (n ≤ b)) (leb a b) (λ h. (omega arith, leb-true a b h)) λ h. (omega (arith, leb-false a b h), omega arith)
 
-lesser-is : (a b n : ℕ) → n ≤ a → n ≤ b → n ≤ lesser a b
+pub lesser-is : (a b n : ℕ) → n ≤ a → n ≤ b → n ≤ lesser a b
 lesser-is a b n h k = by-test (λ x. n ≤ x) (leb a b) (λ _. h) λ _. k
 
 room-grows : (s s′ : Lent) → Wider s s′ → More (walkRoom s) (walkRoom s′)
@@ -214,10 +214,10 @@ module _ (provable logic : ℕ) (rules tokens list : List ℕ) (work : ℕ) wher
       }
 
   -- past the other demands the check decides
-  abbrev checked : Bool
+  abbrev pub checked : Bool
   checked = check (theRules rules) (wantedOf provable logic (getD tokens 0 0)) (drop 1 tokens) list
 
-  past : Asks provable logic rules tokens list work → verifyGives provable logic rules tokens list work .number ≡ firstFault (demand checked 4 ∷ [])
+  pub past : Asks provable logic rules tokens list work → verifyGives provable logic rules tokens list work .number ≡ firstFault (demand checked 4 ∷ [])
   unfolding verifyGives
   past h = met (h .good) 10 _ ∙ met (ap not (le-ltb _ _ (h .long))) 1 _ ∙ met (ap not (le-ltb _ _ (h .short))) 9 _ ∙ met (ap not (le-ltb _ _ (h .room))) 7 _
 
@@ -226,7 +226,7 @@ checked-means : (R : List Rule) (provable logic : ℕ) (tokens list : List ℕ) 
 checked-means R provable logic [] list h = absurd (omega arith)
 checked-means R provable logic (t ∷ xs) list h = (check-sound R _ xs list, check-complete R _ xs list)
 
-none-fails : firstFault [] ≡ 0
+pub none-fails : firstFault [] ≡ 0
 unfolding firstFault
 none-fails = refl
 

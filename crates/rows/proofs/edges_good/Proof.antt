@@ -16,7 +16,8 @@ use Rattle.rows.proofs.edges_good.Statement.{statement}
 use Rattle.rows.proofs.edges_good.Tie as tie
 
 abbrev Inv-pairs : tie.InvT-pairs
-Inv-pairs rules nodes edges n ok₀ row at count k₀ ok k = (ok ≡ true) × (k ≤ 5) × (goodPairs rules (take 16 (drop at edges)) (5 - k) k ≡ goodPairs rules (take 16 (drop at edges)) 5 0)
+Inv-pairs rules nodes edges n ok₀ row at count k₀ ok k =
+    (ok ≡ true) × (k ≤ 5) × (goodPairs rules (take 16 (drop at edges)) (5 - k) k ≡ goodPairs rules (take 16 (drop at edges)) 5 0)
 
 abbrev μ-pairs : tie.MeasureT-pairs
 μ-pairs rules nodes edges n ok₀ row at count k₀ ok k = 5 - k
@@ -38,24 +39,6 @@ returns-2 c = search tests
 rows-holds : tie.Need-rows-holds Inv-pairs μ-pairs Inv-rows μ-rows
 rows-holds c = (search needs, search needs, rw sub-zero)
 
-mul-at : tie.Need-mul-at Inv-pairs μ-pairs Inv-rows μ-rows
-mul-at c = search needs
-
-add-good-ends : tie.Need-add-good-ends Inv-pairs μ-pairs Inv-rows μ-rows
-add-good-ends c = search needs
-
-mul-good-ends : tie.Need-mul-good-ends Inv-pairs μ-pairs Inv-rows μ-rows
-mul-good-ends c = search needs
-
-sub-good-ends : tie.Need-sub-good-ends Inv-pairs μ-pairs Inv-rows μ-rows
-sub-good-ends c = search needs
-
-part-good-ends-start : tie.Need-part-good-ends-start Inv-pairs μ-pairs Inv-rows μ-rows
-part-good-ends-start c = search needs
-
-part-good-ends-end : tie.Need-part-good-ends-end Inv-pairs μ-pairs Inv-rows μ-rows
-part-good-ends-end c = search needs
-
 good-ends-requires : tie.Need-good-ends-requires Inv-pairs μ-pairs Inv-rows μ-rows
 good-ends-requires c κs =
     let st = c .before .before .before .before .before .before .before in
@@ -66,54 +49,6 @@ good-ends-requires c κs =
     let r = c .before .before .rows in
     rw (row-part ws (16 * r .row)) (rowAt-length ws (r .row) (omega arith))
 
-add-count : tie.Need-add-count Inv-pairs μ-pairs Inv-rows μ-rows
-add-count c = search needs
-
-mul-count : tie.Need-mul-count Inv-pairs μ-pairs Inv-rows μ-rows
-mul-count c = search needs
-
-shared-slice-read-count : tie.Need-shared-slice-read-count Inv-pairs μ-pairs Inv-rows μ-rows
-shared-slice-read-count c = search needs
-
-pairs-holds : tie.Need-pairs-holds Inv-pairs μ-pairs Inv-rows μ-rows
-pairs-holds c = search needs
-
-add-p : tie.Need-add-p Inv-pairs μ-pairs Inv-rows μ-rows
-add-p c = search needs
-
-cast-p : tie.Need-cast-p Inv-pairs μ-pairs Inv-rows μ-rows
-cast-p c = search needs
-
-mul-p : tie.Need-mul-p Inv-pairs μ-pairs Inv-rows μ-rows
-mul-p c = search needs
-
-add-p-2 : tie.Need-add-p-2 Inv-pairs μ-pairs Inv-rows μ-rows
-add-p-2 c = search needs
-
-mul-good-pair : tie.Need-mul-good-pair Inv-pairs μ-pairs Inv-rows μ-rows
-mul-good-pair c = search needs
-
-shared-slice-read-good-pair : tie.Need-shared-slice-read-good-pair Inv-pairs μ-pairs Inv-rows μ-rows
-shared-slice-read-good-pair c = search needs
-
-add-good-pair : tie.Need-add-good-pair Inv-pairs μ-pairs Inv-rows μ-rows
-add-good-pair c = search needs
-
-mul-good-pair-2 : tie.Need-mul-good-pair-2 Inv-pairs μ-pairs Inv-rows μ-rows
-mul-good-pair-2 c = search needs
-
-shared-slice-read-good-pair-2 : tie.Need-shared-slice-read-good-pair-2 Inv-pairs μ-pairs Inv-rows μ-rows
-shared-slice-read-good-pair-2 c = search needs
-
-good-pair-requires : tie.Need-good-pair-requires Inv-pairs μ-pairs Inv-rows μ-rows
-good-pair-requires c κs = search needs
-
-add-k : tie.Need-add-k Inv-pairs μ-pairs Inv-rows μ-rows
-add-k c = search needs
-
-pairs-less : tie.Need-pairs-less Inv-pairs μ-pairs Inv-rows μ-rows
-pairs-less c = search needs
-
 pairs-again : tie.Need-pairs-again Inv-pairs μ-pairs Inv-rows μ-rows
 pairs-again c =
     let st = c .before .before .before .before .before .before .before .before .before .before .before .before .before .before .before .before in
@@ -123,13 +58,8 @@ pairs-again c =
     let n = length ws / 16 in
     let r = c .before .before .before .before .before .before .before .before .before .before .before .rows in
     let p = c .before .before .before .before .before .pairs in
-    (search needs, search needs, pairs-more ws rs (16 * r .row) (p .k) (search needs) (passed {s = pairAt rs ws (16 * r .row) (p .k)} (c .before .good-pair .ensures) (c .if4 .left)) ∙ p .inv .2)
-
-add-row : tie.Need-add-row Inv-pairs μ-pairs Inv-rows μ-rows
-add-row c = search needs
-
-rows-less : tie.Need-rows-less Inv-pairs μ-pairs Inv-rows μ-rows
-rows-less c = search needs
+    let good : pairAt rs ws (16 * r .row) (p .k) ≡ true = passed {s = pairAt rs ws (16 * r .row) (p .k)} (c .before .good-pair .ensures) (c .if4 .left) in
+    (search needs, search needs, pairs-more ws rs (16 * r .row) (p .k) (search needs) good ∙ p .inv .2)
 
 rows-again : tie.Need-rows-again Inv-pairs μ-pairs Inv-rows μ-rows
 rows-again c =
@@ -140,8 +70,12 @@ rows-again c =
     let n = length ws / 16 in
     let r = c .before .before .before .before .before .before .before .rows in
     let p = c .before .pairs in
-    let h : goodEnds ns (rowAt ws (r .row)) ≡ true = passed (rw (row-part ws (16 * r .row)) at (c .before .before .before .before .good-ends .ensures)) (c .before .before .before .if3 .left) in
-    (search needs, search needs, search (← (r .inv .2), check-step ns ws rs n (r .row) (search needs), h, ← (p .inv .2), pairs-end rs (p .k) (rowAt ws (r .row)) (search needs)))
+    let e = c .before .before .before in
+    let h : goodEnds ns (rowAt ws (r .row)) ≡ true = passed (rw (row-part ws (16 * r .row)) at (e .before .good-ends .ensures)) (e .if3 .left) in (
+      search needs,
+      search needs,
+      search (← (r .inv .2), check-step ns ws rs n (r .row) (search needs), h, ← (p .inv .2), pairs-end rs (p .k) (rowAt ws (r .row)) (search needs)),
+    )
 
 returns-3 : tie.Need-returns-3 Inv-pairs μ-pairs Inv-rows μ-rows
 returns-3 c =
@@ -173,8 +107,10 @@ returns-5 c =
     let n = length ws / 16 in
     let r = c .before .before .before .before .before .before .before .before .before .before .before .rows in
     let p = c .before .before .before .before .before .pairs in
-    let h : goodEnds ns (rowAt ws (r .row)) ≡ true = passed (rw (row-part ws (16 * r .row)) at (c .before .before .before .before .before .before .before .before .good-ends .ensures)) (c .before .before .before .before .before .before .before .if3 .left) in
-    let bad = sym (p .inv .2) ∙ pairs-bad ws rs (16 * r .row) (p .k) (search needs) (failed {s = pairAt rs ws (16 * r .row) (p .k)} (c .before .good-pair .ensures) (c .if4 .taken)) in
+    let e = c .before .before .before .before .before .before .before in
+    let h : goodEnds ns (rowAt ws (r .row)) ≡ true = passed (rw (row-part ws (16 * r .row)) at (e .before .good-ends .ensures)) (e .if3 .left) in
+    let pair : pairAt rs ws (16 * r .row) (p .k) ≡ false = failed {s = pairAt rs ws (16 * r .row) (p .k)} (c .before .good-pair .ensures) (c .if4 .taken) in
+    let bad = sym (p .inv .2) ∙ pairs-bad ws rs (16 * r .row) (p .k) (search needs) pair in
     sym (table-step ns ws rs (search needs) (search needs) ∙ sym (r .inv .2) ∙ row-bad ns ws rs n (r .row) (search needs) h bad)
 
 pub edges-good-spec : {M : Type 1} → statement M
@@ -188,32 +124,32 @@ edges-good-spec =
     returns
     returns-2
     rows-holds
-    mul-at
-    add-good-ends
-    mul-good-ends
-    sub-good-ends
-    part-good-ends-start
-    part-good-ends-end
+    (λ c. search needs)
+    (λ c. search needs)
+    (λ c. search needs)
+    (λ c. search needs)
+    (λ c. search needs)
+    (λ c. search needs)
     good-ends-requires
-    add-count
-    mul-count
-    shared-slice-read-count
-    pairs-holds
-    add-p
-    cast-p
-    mul-p
-    add-p-2
-    mul-good-pair
-    shared-slice-read-good-pair
-    add-good-pair
-    mul-good-pair-2
-    shared-slice-read-good-pair-2
-    good-pair-requires
-    add-k
-    pairs-less
+    (λ c. search needs)
+    (λ c. search needs)
+    (λ c. search needs)
+    (λ c. search needs)
+    (λ c. search needs)
+    (λ c. search needs)
+    (λ c. search needs)
+    (λ c. search needs)
+    (λ c. search needs)
+    (λ c. search needs)
+    (λ c. search needs)
+    (λ c. search needs)
+    (λ c. search needs)
+    (λ c κs. search needs)
+    (λ c. search needs)
+    (λ c. search needs)
     pairs-again
-    add-row
-    rows-less
+    (λ c. search needs)
+    (λ c. search needs)
     rows-again
     returns-3
     returns-4

@@ -15,31 +15,14 @@ use Rattle.rows.proofs.look_up.Statement.{statement}
 use Rattle.rows.proofs.look_up.Tie as tie
 
 abbrev Inv-loop : tie.InvT-loop
-Inv-loop edges from kind symbol n row₀ row = (row ≤ n) × (numbered (from .0) kind (symbol .0) row (edgesFrom (rowsLeft edges n row)) ≡ looksUp edges (from .0) kind (symbol .0))
+Inv-loop edges from kind symbol n row₀ row =
+    (row ≤ n) × (numbered (from .0) kind (symbol .0) row (edgesFrom (rowsLeft edges n row)) ≡ looksUp edges (from .0) kind (symbol .0))
 
 abbrev μ-loop : tie.MeasureT-loop
 μ-loop edges from kind symbol n row₀ row = n - row
 
 loop-holds : tie.Need-loop-holds Inv-loop μ-loop
 loop-holds c = (search needs, rw sub-zero)
-
-mul-at : tie.Need-mul-at Inv-loop μ-loop
-mul-at c = search needs
-
-add-row-is : tie.Need-add-row-is Inv-loop μ-loop
-add-row-is c = search needs
-
-mul-row-is : tie.Need-mul-row-is Inv-loop μ-loop
-mul-row-is c = search needs
-
-sub-row-is : tie.Need-sub-row-is Inv-loop μ-loop
-sub-row-is c = search needs
-
-part-row-is-start : tie.Need-part-row-is-start Inv-loop μ-loop
-part-row-is-start c = search needs
-
-part-row-is-end : tie.Need-part-row-is-end Inv-loop μ-loop
-part-row-is-end c = search needs
 
 row-is-requires : tie.Need-row-is-requires Inv-loop μ-loop
 row-is-requires c κs =
@@ -55,14 +38,9 @@ returns c =
     let st = c .before .before .before .before .before .before in
     let ws = now (st .args .edges) in
     let n = length ws / 16 in
-    let is : keyed (st .args .from .0) (st .args .kind) (st .args .symbol .0) (edgeOf (rowAt ws (l .row))) ≡ true = sym (rw (row-part ws (16 * l .row)) at (c .before .row-is .ensures)) ∙ c .if1 .taken in
+    let is : keyed (st .args .from .0) (st .args .kind) (st .args .symbol .0) (edgeOf (rowAt ws (l .row))) ≡ true =
+    sym (rw (row-part ws (16 * l .row)) at (c .before .row-is .ensures)) ∙ c .if1 .taken in
     search (← (l .inv .1), look-step (st .args .from .0) (st .args .kind) (st .args .symbol .0) ws n (l .row) (search needs), is)
-
-add-row : tie.Need-add-row Inv-loop μ-loop
-add-row c = search needs
-
-loop-less : tie.Need-loop-less Inv-loop μ-loop
-loop-less c = search needs
 
 loop-again : tie.Need-loop-again Inv-loop μ-loop
 loop-again c =
@@ -70,7 +48,8 @@ loop-again c =
     let st = c .before .before .before .before .before .before in
     let ws = now (st .args .edges) in
     let n = length ws / 16 in
-    let is : keyed (st .args .from .0) (st .args .kind) (st .args .symbol .0) (edgeOf (rowAt ws (l .row))) ≡ false = sym (rw (row-part ws (16 * l .row)) at (c .before .row-is .ensures)) ∙ c .if1 .left in
+    let is : keyed (st .args .from .0) (st .args .kind) (st .args .symbol .0) (edgeOf (rowAt ws (l .row))) ≡ false =
+    sym (rw (row-part ws (16 * l .row)) at (c .before .row-is .ensures)) ∙ c .if1 .left in
     (search needs, search (← (l .inv .1), look-step (st .args .from .0) (st .args .kind) (st .args .symbol .0) ws n (l .row) (search needs), is))
 
 returns-2 : tie.Need-returns-2 Inv-loop μ-loop
@@ -88,15 +67,15 @@ look-up-spec =
     Inv-loop
     μ-loop
     loop-holds
-    mul-at
-    add-row-is
-    mul-row-is
-    sub-row-is
-    part-row-is-start
-    part-row-is-end
+    (λ c. search needs)
+    (λ c. search needs)
+    (λ c. search needs)
+    (λ c. search needs)
+    (λ c. search needs)
+    (λ c. search needs)
     row-is-requires
     returns
-    add-row
-    loop-less
+    (λ c. search needs)
+    (λ c. search needs)
     loop-again
     returns-2)

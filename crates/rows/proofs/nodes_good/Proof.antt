@@ -12,15 +12,9 @@ returns-2 : tie.Need-returns-2
 unfolding nodesGood
 returns-2 c = search tests
 
-shared-slice-read-if3 : tie.Need-shared-slice-read-if3
-shared-slice-read-if3 c = search needs
-
 returns-3 : tie.Need-returns-3
 unfolding nodesGood
 returns-3 c = search tests
-
-good-nodes-requires : tie.Need-good-nodes-requires
-good-nodes-requires c κs = search needs
 
 returns-4 : tie.Need-returns-4
 unfolding nodesGood
@@ -29,4 +23,4 @@ returns-4 c = search (tests, c .good-nodes .ensures)
 pub nodes-good-spec : {M : Type 1} → statement M
 nodes-good-spec =
     tie.close
-    (tie.spec returns returns-2 shared-slice-read-if3 returns-3 good-nodes-requires returns-4)
+    (tie.spec returns returns-2 (λ c. search needs) returns-3 (λ c κs. search needs) returns-4)

@@ -7,24 +7,6 @@ use Rattle.rows.proofs.Laws.{row-part}
 use Rattle.rows.proofs.read_row.Statement.{statement}
 use Rattle.rows.proofs.read_row.Tie as tie
 
-mul-at : tie.Need-mul-at
-mul-at c = search needs
-
-add-read-edge : tie.Need-add-read-edge
-add-read-edge c = search needs
-
-mul-read-edge : tie.Need-mul-read-edge
-mul-read-edge c = search needs
-
-sub-read-edge : tie.Need-sub-read-edge
-sub-read-edge c = search needs
-
-part-read-edge-start : tie.Need-part-read-edge-start
-part-read-edge-start c = search needs
-
-part-read-edge-end : tie.Need-part-read-edge-end
-part-read-edge-end c = search needs
-
 read-edge-requires : tie.Need-read-edge-requires
 read-edge-requires c κs =
     let st = c .before .before in
@@ -41,11 +23,11 @@ pub read-row-spec : {M : Type 1} → statement M
 read-row-spec =
     tie.close
     (tie.spec
-    mul-at
-    add-read-edge
-    mul-read-edge
-    sub-read-edge
-    part-read-edge-start
-    part-read-edge-end
+    (λ c. search needs)
+    (λ c. search needs)
+    (λ c. search needs)
+    (λ c. search needs)
+    (λ c. search needs)
+    (λ c. search needs)
     read-edge-requires
     returns)

@@ -4,15 +4,6 @@ use Rattle.rows.proofs.Laws.{place-used, place-unused}
 use Rattle.rows.proofs.reduce_of.Statement.{statement}
 use Rattle.rows.proofs.reduce_of.Tie as tie
 
-cast-if1 : tie.Need-cast-if1
-cast-if1 c = search needs
-
-mul-result : tie.Need-mul-result
-mul-result c = search needs
-
-element-copy-out-result : tie.Need-element-copy-out-result
-element-copy-out-result c = search needs
-
 returns : tie.Need-returns
 returns c = sym (place-used (c .before .before .args .t1) (c .before .before .args .k) (search needs))
 
@@ -20,4 +11,4 @@ returns-2 : tie.Need-returns-2
 returns-2 c = sym (place-unused (c .before .args .t1) (c .before .args .k) (search needs))
 
 pub reduce-of-spec : {M : Type 1} → statement M
-reduce-of-spec = tie.close (tie.spec cast-if1 mul-result element-copy-out-result returns returns-2)
+reduce-of-spec = tie.close (tie.spec (λ c. search needs) (λ c. search needs) (λ c. search needs) returns returns-2)

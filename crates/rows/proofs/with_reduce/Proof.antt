@@ -30,27 +30,6 @@ loop-holds c =
     let h : length (e .reduces) ≡ 5 = rw length-map at (st .good .0 .1 .1 .1 .1 .1 .1 .1 .0 .1 .0 .1) in
     (search needs, h, ap (placed e (e .count)) (sym (shift-none (e .reduces) h)))
 
-sub-moved : tie.Need-sub-moved Inv-loop μ-loop
-sub-moved c = search needs
-
-mul-moved : tie.Need-mul-moved Inv-loop μ-loop
-mul-moved c = search needs
-
-element-copy-out-moved : tie.Need-element-copy-out-moved Inv-loop μ-loop
-element-copy-out-moved c = search needs
-
-mul-moved-2 : tie.Need-mul-moved-2 Inv-loop μ-loop
-mul-moved-2 c = search needs
-
-element-set-from-moved : tie.Need-element-set-from-moved Inv-loop μ-loop
-element-set-from-moved c = search needs
-
-sub-k : tie.Need-sub-k Inv-loop μ-loop
-sub-k c = search needs
-
-loop-less : tie.Need-loop-less Inv-loop μ-loop
-loop-less c = search needs
-
 loop-again : tie.Need-loop-again Inv-loop μ-loop
 loop-again c =
     let l = c .before .before .loop in
@@ -61,12 +40,6 @@ loop-again c =
       ap (λ (o : Edge). placed o (o .count) (set (o .reduces) (l .k) (getD (o .reduces) (l .k - 1) d))) (l .inv .2)
           ∙ ap (placed e (e .count)) (shift-more (e .reduces) (l .k) d (l .inv .1) (search needs) (search needs)),
     )
-
-element-set-from-r : tie.Need-element-set-from-r Inv-loop μ-loop
-element-set-from-r c = search needs
-
-add-out : tie.Need-add-out Inv-loop μ-loop
-add-out c = search needs
 
 returns-2 : tie.Need-returns-2 Inv-loop μ-loop
 returns-2 c =
@@ -86,14 +59,14 @@ with-reduce-spec =
     μ-loop
     returns
     loop-holds
-    sub-moved
-    mul-moved
-    element-copy-out-moved
-    mul-moved-2
-    element-set-from-moved
-    sub-k
-    loop-less
+    (λ c. search needs)
+    (λ c. search needs)
+    (λ c. search needs)
+    (λ c. search needs)
+    (λ c. search needs)
+    (λ c. search needs)
+    (λ c. search needs)
     loop-again
-    element-set-from-r
-    add-out
+    (λ c. search needs)
+    (λ c. search needs)
     returns-2)

@@ -39,38 +39,11 @@ loop-holds c =
     let h : length (e .reduces) ≡ 5 = rw length-map at (st .good .1 .0 .1 .1 .1 .1 .1 .1 .1 .0 .1 .0 .1) in
     (search needs, simp length-set (omega arith), written-head (now (st .args .row)) e (st .pre .0) h (st .pre .1))
 
-reduce-of-requires : tie.Need-reduce-of-requires Inv-loop μ-loop
-reduce-of-requires c κs = search needs
-
-mul-row : tie.Need-mul-row Inv-loop μ-loop
-mul-row c = search needs
-
-add-row : tie.Need-add-row Inv-loop μ-loop
-add-row c = search needs
-
-mul-row-2 : tie.Need-mul-row-2 Inv-loop μ-loop
-mul-row-2 c = search needs
-
 slice-write-row-6 : tie.Need-slice-write-row-6 Inv-loop μ-loop
 slice-write-row-6 c = omega arith
 
-mul-row-3 : tie.Need-mul-row-3 Inv-loop μ-loop
-mul-row-3 c = search needs
-
-add-row-2 : tie.Need-add-row-2 Inv-loop μ-loop
-add-row-2 c = search needs
-
-mul-row-4 : tie.Need-mul-row-4 Inv-loop μ-loop
-mul-row-4 c = search needs
-
 slice-write-row-7 : tie.Need-slice-write-row-7 Inv-loop μ-loop
 slice-write-row-7 c = simp length-set (omega arith)
-
-add-k : tie.Need-add-k Inv-loop μ-loop
-add-k c = search needs
-
-loop-less : tie.Need-loop-less Inv-loop μ-loop
-loop-less c = search needs
 
 loop-again : tie.Need-loop-again Inv-loop μ-loop
 loop-again c =
@@ -107,17 +80,17 @@ write-row-spec =
     slice-write-row-4
     slice-write-row-5
     loop-holds
-    reduce-of-requires
-    mul-row
-    add-row
-    mul-row-2
+    (λ c κs. search needs)
+    (λ c. search needs)
+    (λ c. search needs)
+    (λ c. search needs)
     slice-write-row-6
-    mul-row-3
-    add-row-2
-    mul-row-4
+    (λ c. search needs)
+    (λ c. search needs)
+    (λ c. search needs)
     slice-write-row-7
-    add-k
-    loop-less
+    (λ c. search needs)
+    (λ c. search needs)
     loop-again
     slice-write-row-8
     same-length

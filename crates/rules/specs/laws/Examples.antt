@@ -2,10 +2,10 @@
 use mathlib.Core.Path.{_≡_, refl}
 use mathlib.Core.Bool.{Bool, true, false, not, _&&_}
 use mathlib.Core.List.{List, [], _∷_, _++_}
-use mathlib.Core.Option.{Option, none, some}
-use Prim.Native.Nat.{ℕ, zero, suc, _+_}
+use mathlib.Core.Option.{none, some}
+use Prim.Native.Nat.{ℕ, zero, suc}
 use Rattle.words.specs.Limits.{mostRules}
-use Rattle.rules.specs.Rules.{Item, con, slot, Rule, itemsOf, theRules, ruleAt, slots, source, rulesGood, Stretch, noStretch, stretchFrom, cut, reading}
+use Rattle.rules.specs.Rules.{con, slot, theRules, ruleAt, slots, source, rulesGood, Stretch, noStretch, stretchFrom, cut, reading}
 use Rattle.rules.specs.Sheet.{words-S, words-S10, words-T, words-U, words-V, words-W, rules-S, sets}
 
 record Case : Type 0 where

@@ -8,10 +8,10 @@ use native.Mathlib.Numerals.{add-one, add-two}
 use native.Mathlib.Nat.{not-suc-le-zero}
 use native.Mathlib.Omega.{arith}
 use lib.Dec.{eqb, ltb, leb}
-use lib.ListN.{length, take, drop, getD, getElem?, drop-of-length-le, length-drop}
+use lib.ListN.{length, drop, getD, getElem?, drop-of-length-le, length-drop}
 use lib.Seq.{drop-cons, drop-drop, length-take-le, getD-drop, getD-take}
-use borrow.Author.Tests.{ltb-true, ltb-false, leb-true, eqb-true, eqb-false, not-true, ne-eqb}
-use Rattle.words.specs.Limits.{mostSymbol, mostItems, itemWidth, mostRules}
+use borrow.Author.Tests.{ltb-true, ltb-false, leb-true, not-true, ne-eqb}
+use Rattle.words.specs.Limits.{mostItems, itemWidth, mostRules}
 use Rattle.words.specs.Outcome.{pick}
 use Rattle.words.specs.laws.Tests.{and-l, and-r, by-test}
 use Rattle.rules.specs.Rules.{Item, con, slot, Rule, sizeOf, bodyWords, restOf, itemOf, itemsOf, ruleOf, rulesOf, theRules, ruleAt, slots, source, symbol, goodItems, goodHead, equalEnds, goodRule, goodRules, rulesGood, Stretch, noStretch, stretchFrom}

@@ -1,0 +1,140 @@
+-- What the entry points' proofs share: a result of the code as a value of its definition.
+use mathlib.Core.Path.{_≡_, refl, sym, _∙_, ap, subst}
+use mathlib.Core.Bool.{Bool, true, false}
+use mathlib.Core.List.{List, [], _∷_}
+use Prim.Native.Nat.{ℕ, _*_, _-_, _/_, _≤_}
+use native.Mathlib.Nat.{sub-zero}
+use native.Mathlib.Omega.{arith}
+use lib.ListN.{length, getD, drop, take}
+use Rattle.words.specs.Limits.{mostNodes, mostEdges, rowWidth}
+use Rattle.words.specs.Lent.{zeros, clearedFrom}
+use Rattle.words.specs.Outcome.{Res, demand, firstFault}
+use Rattle.words.specs.laws.Faults.{met, unmet}
+use Rattle.words.specs.laws.Parts.{part-all}
+use Rattle.rules.specs.Rules.{theRules, rulesGood}
+use Rattle.formula.specs.Check.{check}
+use Rattle.walk.specs.Walk.{wantedOf}
+use Rattle.walk.specs.Walk as passes
+use Rattle.words.specs.Numbers.{Fault, faultNumber}
+use Rattle.tree.specs.Grow.{Grown, Room, grow}
+use Rattle.tree.specs.Code.{roomOf, faultOf, Holding, Grows}
+use Rattle.tree.specs.declared.Fault as why
+use Rattle.tree.specs.declared.Grew.{Grew}
+use Rattle.tree.specs.declared.Grew.the-variants.{On, Refused}
+use Rattle.tree.specs.declared.Counts.{Counts}
+use Rattle.tree.specs.declared.Room as lent
+use Rattle.desk.specs.Entry.{lesser, Built, notBuilt, buildRoom, builtBy, buildAfter, buildGives, verifyDemands, verifyGives}
+use Rattle.desk.specs.Code.{builtIs, Raised}
+use Rattle.desk.specs.declared.Made.{Made}
+use Rattle.desk.specs.laws.Promises.{Asks, past, none-fails, lesser-le}
+
+module _ (provable logic : ℕ) (rules tokens list : List ℕ) (work : ℕ) where
+  pub verified : (number : ℕ) (after : List ℕ) → number ≡ firstFault (verifyDemands provable logic rules tokens list work) → after ≡ zeros work
+      → record { number = number; place = 0; length = 0; passes = 0; work-words = after } ≡ verifyGives provable logic rules tokens list work
+  unfolding verifyGives
+  verified number after e f = λ i. record { number = e i; place = 0; length = 0; passes = 0; work-words = f i }
+
+  -- the check decides, by what the code's check says of the tokens after the first
+  pub decided : (goal : ℕ) (b : Bool) → Asks provable logic rules tokens list work → goal ≡ wantedOf provable logic (getD tokens 0 0)
+      → b ≡ check (theRules rules) goal (take (length tokens - 1) (drop 1 tokens)) list
+      → firstFault (verifyDemands provable logic rules tokens list work) ≡ firstFault (demand b 4 ∷ [])
+  unfolding verifyGives
+  decided goal b h g e = past provable logic rules tokens list work h
+      ∙ ap (λ (x : Bool). firstFault (demand x 4 ∷ [])) (sym (e ∙ rw (part-all tokens 1, g)))
+
+-- ---- a build
+
+-- the words that a refused build leaves
+cleared-all : (ws : List ℕ) (n : ℕ) → length ws ≡ n → clearedFrom ws 0 ≡ zeros n
+cleared-all ws n e = rw (e, sub-zero n)
+
+pub raised-no : (b : Built) (k : ℕ) (ns es : List ℕ) (nodes edges : ℕ) → b ≡ notBuilt k nodes edges → length ns ≡ nodes → length es ≡ edges
+    → Raised b (record { number = k; nodes = 0; edges = 0 }) ns es
+raised-no b k ns es nodes edges h d e = rw h (record {
+  number = refl;
+  node-count = refl;
+  edge-count = refl;
+  nodes-in = omega arith;
+  edges-in = omega arith;
+  node-words = cleared-all ns nodes d;
+  edge-words = cleared-all es edges e;
+})
+
+-- the room that is asked for lies within the slices and the limits
+pub record Fits (z : lent.Room) (nodes edges : ℕ) : Type 0 where
+  pub nodes-in : z .nodes ≤ nodes
+  pub nodes-few : z .nodes ≤ mostNodes
+  pub edges-in : rowWidth * z .edges ≤ edges
+  pub edges-few : z .edges ≤ mostEdges
+
+pub room-fits : (z : lent.Room) (nodes edges : ℕ) → roomOf z ≡ buildRoom nodes edges → Fits z nodes edges
+room-fits z nodes edges h =
+    let a : z .nodes ≡ lesser nodes mostNodes = ap (λ (x : Room). x .nodes) h in
+    let b : z .edges ≡ lesser (edges / rowWidth) mostEdges = ap (λ (x : Room). x .edges) h in
+    let n = lesser-le nodes mostNodes in
+    let e = lesser-le (edges / rowWidth) mostEdges in
+    record {
+      nodes-in = omega (arith, a, n .0);
+      nodes-few = omega (arith, a, n .1);
+      edges-in = omega (arith, b, e .0);
+      edges-few = omega (arith, b, e .1);
+    }
+
+pub raised-ok : (b : Built) (z : lent.Room) (x : Res Fault Grown) (c : Counts) (ns es : List ℕ) (nodes edges : ℕ) → b ≡ builtBy nodes edges x
+    → length ns ≡ nodes → length es ≡ edges → z .nodes ≤ nodes → rowWidth * z .edges ≤ edges → Holding z x c ns es
+    → Raised b (record { number = 0; nodes = c .nodes; edges = c .edges }) ns es
+unfolding builtBy
+raised-ok b z x c ns es nodes edges h d e p q s = rw (h, s .grows) (record {
+  number = refl;
+  node-count = s .node-count;
+  edge-count = s .edge-count;
+  nodes-in = omega (arith, s .nodes-in);
+  edges-in = omega (arith, s .edges-in);
+  node-words = rw (s .nodes, d);
+  edge-words = rw (s .edges, e);
+})
+
+module _ (provable logic : ℕ) (rules : List ℕ) (nodes edges : ℕ) where
+  pub build-10 : rulesGood provable logic rules ≡ false → buildGives provable logic rules nodes edges ≡ notBuilt 10 nodes edges
+  unfolding buildGives buildAfter
+  build-10 h = ap (buildAfter rules nodes edges) (unmet h 10 [])
+
+  build-grown : rulesGood provable logic rules ≡ true → buildGives provable logic rules nodes edges ≡ builtBy nodes edges (grow (buildRoom nodes edges) (theRules rules))
+  unfolding buildGives buildAfter
+  build-grown h = ap (buildAfter rules nodes edges) (met h 10 [] ∙ none-fails)
+
+  -- what the growing left in the slices, by what it answered
+  module _ (h : rulesGood provable logic rules ≡ true) (z : lent.Room) (e : roomOf z ≡ buildRoom nodes edges) (r : Grew) (ns es : List ℕ)
+      (d : length ns ≡ nodes) (f : length es ≡ edges) (m : Grows z (grow (roomOf z) (theRules rules)) r ns es) where
+    grown : buildGives provable logic rules nodes edges ≡ builtBy nodes edges (grow (roomOf z) (theRules rules))
+    grown = build-grown h ∙ ap (λ (x : Room). builtBy nodes edges (grow x (theRules rules))) (sym e)
+
+    pub raised-on : (c : Counts) → r ≡ On c → Raised (buildGives provable logic rules nodes edges) (record { number = 0; nodes = c .nodes; edges = c .edges }) ns es
+    raised-on c a =
+        let s = subst (λ x. Grows z (grow (roomOf z) (theRules rules)) x ns es) a m in
+        let k = room-fits z nodes edges e in
+        raised-ok _ z _ c ns es nodes edges grown d f (k .nodes-in) (k .edges-in) s
+
+    pub raised-refused : (y : why.Fault) (k : ℕ) → r ≡ Refused y → k ≡ faultNumber (faultOf y)
+        → Raised (buildGives provable logic rules nodes edges) (record { number = k; nodes = 0; edges = 0 }) ns es
+    unfolding builtBy
+    raised-refused y k a g =
+        let s = subst (λ x. Grows z (grow (roomOf z) (theRules rules)) x ns es) a m in
+        raised-no _ k ns es nodes edges (grown ∙ rw (s, g)) d f
+
+-- counts of what stands there are small
+pub counts-small : (z : lent.Room) (x : Res Fault Grown) (c : Counts) (r : Grew) (ns es : List ℕ) → z .nodes ≤ mostNodes → z .edges ≤ mostEdges → Grows z x r ns es → r ≡ On c
+    → (c .nodes ≤ mostNodes) × (c .edges ≤ mostEdges)
+counts-small z x c r ns es h k s a =
+    let t = subst (λ y. Grows z x y ns es) a s in
+    (omega (arith, t .nodes-in), omega (arith, t .edges-in))
+
+pub built : (b : Built) (m : Made) (ns es ns′ es′ : List ℕ) → Raised b m ns es → ns′ ≡ clearedFrom ns (m .nodes) → es′ ≡ clearedFrom es (rowWidth * m .edges)
+    → builtIs m ns′ es′ ≡ b
+built b m ns es ns′ es′ r d e = λ i. record {
+  number = r .number i;
+  nodes = r .node-count i;
+  edges = r .edge-count i;
+  node-words = (d ∙ r .node-words) i;
+  edge-words = (e ∙ r .edge-words) i;
+}

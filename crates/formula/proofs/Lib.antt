@@ -1,0 +1,2 @@
+pub mod Reducing
+pub mod Checking

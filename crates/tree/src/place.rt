@@ -1,0 +1,190 @@
+// Rules in order, conversions skipped: each body from node 0. 11 before 12 before 13.
+use super::Counts;
+use super::Fault;
+use super::Grew;
+use super::Item;
+use super::Room;
+use super::table;
+ghost use mathlib.Core.Path.{_≡_};
+ghost use mathlib.Core.Bool.{true};
+ghost use mathlib.Core.List.{[], _∷_};
+ghost use Prim.Native.Nat.{_+_, _≤_, _<_};
+ghost use lib.ListN.{length, getD};
+ghost use Rattle.words.specs.Limits.{itemWidth};
+ghost use Rattle.rules.specs.Rules.{itemsOf, theRules, goodItems};
+ghost use Rattle.rules.specs.Code.{aRule, someRules};
+ghost use Rattle.tree.specs.Grow.{place, placeRules};
+ghost use Rattle.tree.specs.Code.{roomOf, itemIs, grownOf, Stands, branchOf, innerOf, placeFirst, Meets, Places};
+
+// Where the next item of a body is placed, or why it can't be.
+pub enum Placed {
+    At(Counts, words::NodeNo),
+    Stuck(Fault),
+}
+
+// An item's edge to a new branch.
+fn new_branch(
+    room: Room,
+    c: Counts,
+    n: words::NodeNo,
+    item: Item,
+    nodes: &mut [u32],
+    edges: &mut [u32],
+) -> Placed
+    requires { ⌜ Stands room c (now nodes) (now edges) × (item .kind ≤ 1) ⌝ }
+    ensures { λ r. ⌜ Places room (branchOf (roomOf room) (grownOf c (now (nodes .entry)) (now (edges .entry))) (n .0) (itemIs item))
+        r (now (nodes .exit)) (now (edges .exit)) ⌝ }
+{
+    let grew = table::add_node(room, c, n, item, 0, nodes, edges);
+    match grew {
+        Grew::On(next) => Placed::At(next, words::NodeNo(c.nodes as u32)),
+        Grew::Refused(f) => Placed::Stuck(f),
+    }
+}
+
+// An item that has more after it follows its edge, or makes one to a new branch.
+fn place_inner(
+    room: Room,
+    c: Counts,
+    n: words::NodeNo,
+    item: Item,
+    nodes: &mut [u32],
+    edges: &mut [u32],
+) -> Placed
+    requires { ⌜ Stands room c (now nodes) (now edges) × (n .0 < c .nodes) × (item .kind ≤ 1) ⌝ }
+    ensures { λ r. ⌜ Places room (innerOf (roomOf room) (grownOf c (now (nodes .entry)) (now (edges .entry))) (n .0) (itemIs item))
+        r (now (nodes .exit)) (now (edges .exit)) ⌝ }
+{
+    let at = n.0 as usize;
+    if nodes[at] != 0 {
+        return Placed::Stuck(Fault::Collides);
+    }
+    let symbol = item.symbol;
+    let rows::Found::Row(row) = table::look(c, n, item.kind, symbol, edges) else {
+        return new_branch(room, c, n, item, nodes, edges);
+    };
+    let e = rows::read_row(edges, row);
+    let to = e.to;
+    Placed::At(c, to)
+}
+
+// The last item of a body makes a new leaf.
+fn place_last(
+    room: Room,
+    c: Counts,
+    rule: words::RuleNo,
+    n: words::NodeNo,
+    item: Item,
+    nodes: &mut [u32],
+    edges: &mut [u32],
+) -> Grew
+    requires { ⌜ Stands room c (now nodes) (now edges) × (n .0 < c .nodes) × (item .kind ≤ 1) ⌝ }
+    ensures { λ r. ⌜ Meets room (place (roomOf room) (rule .0) (itemIs item ∷ []) (grownOf c (now (nodes .entry)) (now (edges .entry))) (n .0))
+        r (now (nodes .exit)) (now (edges .exit)) ⌝ }
+{
+    let at = n.0 as usize;
+    if nodes[at] != 0 {
+        return Grew::Refused(Fault::Collides);
+    }
+    let symbol = item.symbol;
+    let rows::Found::Nothing = table::look(c, n, item.kind, symbol, edges) else {
+        return Grew::Refused(Fault::Collides);
+    };
+    table::add_node(room, c, n, item, rule.0, nodes, edges)
+}
+
+// The item that starts at word `i` of a body.
+fn item_at(body: &[u32], i: usize) -> Item
+    requires { ⌜ i + itemWidth ≤ length (now body) ⌝ }
+    ensures { λ r. ⌜ r ≡ record { kind = getD (now (body .entry)) i 0; symbol = record { 0 = getD (now (body .entry)) (i + 1) 0 } } ⌝ }
+{
+    Item {
+        kind: body[i],
+        symbol: words::SymbolNo(body[i + 1]),
+    }
+}
+
+// A body from node 0.
+fn place_body(
+    room: Room,
+    start: Counts,
+    rule: words::RuleNo,
+    body: &[u32],
+    nodes: &mut [u32],
+    edges: &mut [u32],
+) -> Grew
+    requires { ⌜ Stands room start (now nodes) (now edges) × (0 < length (now body)) × (goodItems (now body) ≡ true) ⌝ }
+    ensures { λ r. ⌜ Meets room
+        (place (roomOf room) (rule .0) (itemsOf (now (body .entry))) (grownOf start (now (nodes .entry)) (now (edges .entry))) 0)
+        r (now (nodes .exit)) (now (edges .exit)) ⌝ }
+{
+    let mut c = start;
+    let mut n = words::NodeNo(0);
+    let mut i = 0;
+    while words::ITEM_WIDTH < body.len() - i {
+        let placed = place_inner(room, c, n, item_at(body, i), nodes, edges);
+        match placed {
+            Placed::At(next, to) => {
+                c = next;
+                n = to;
+            }
+            Placed::Stuck(f) => {
+                return Grew::Refused(f);
+            }
+        }
+        i += words::ITEM_WIDTH;
+    }
+    place_last(room, c, rule, n, item_at(body, i), nodes, edges)
+}
+
+// The rule that stands first in a slice is placed, if it is no conversion.
+fn place_rule(
+    room: Room,
+    c: Counts,
+    no: words::RuleNo,
+    rule: &[u32],
+    nodes: &mut [u32],
+    edges: &mut [u32],
+) -> Grew
+    requires { ⌜ Stands room c (now nodes) (now edges) × (aRule (now rule) ≡ true) ⌝ }
+    ensures { λ r. ⌜ Meets room (placeFirst (roomOf room) (no .0) (now (rule .entry)) (grownOf c (now (nodes .entry)) (now (edges .entry))))
+        r (now (nodes .exit)) (now (edges .exit)) ⌝ }
+{
+    let rules::Conversion::No = rules::conversion_of(rule) else {
+        return Grew::On(c);
+    };
+    let body = rules::body_of(rule);
+    place_body(room, c, no, body, nodes, edges)
+}
+
+// Every rule that is no conversion, in order.
+pub fn place_rules(
+    room: Room,
+    start: Counts,
+    rules: &[u32],
+    nodes: &mut [u32],
+    edges: &mut [u32],
+) -> Grew
+    requires { ⌜ Stands room start (now nodes) (now edges) × (someRules (now rules) ≡ true) ⌝ }
+    ensures { λ r. ⌜ Meets room (placeRules (roomOf room) 1 (theRules (now (rules .entry))) (grownOf start (now (nodes .entry)) (now (edges .entry))))
+        r (now (nodes .exit)) (now (edges .exit)) ⌝ }
+{
+    let mut c = start;
+    let mut n: u32 = 0;
+    let mut i = 0;
+    while i < rules.len() {
+        n += 1;
+        let rest = &rules[i..];
+        let grew = place_rule(room, c, words::RuleNo(n), rest, nodes, edges);
+        match grew {
+            Grew::On(next) => {
+                c = next;
+            }
+            Grew::Refused(f) => {
+                return Grew::Refused(f);
+            }
+        }
+        i += rules::size_of(rest);
+    }
+    Grew::On(c)
+}

@@ -1,0 +1,95 @@
+// The nodes and edges so far: looked up, and appended.
+use super::Counts;
+use super::Fault;
+use super::Grew;
+use super::Item;
+use super::Room;
+ghost use mathlib.Core.Path.{_≡_};
+ghost use mathlib.Core.List.{List, []};
+ghost use Prim.Native.Nat.{ℕ, _*_, _≤_, _<_};
+ghost use lib.ListN.{length};
+ghost use Rattle.words.specs.Limits.{rowWidth, mostReduces};
+ghost use Rattle.rows.specs.Code.{edgeIs, Holds};
+ghost use Rattle.tree.specs.Grow.{addEdge, addNode};
+ghost use Rattle.tree.specs.Code.{roomOf, itemIs, grownOf, Looks, Rowed, Stands, Rows, Meets};
+
+// The row of the edge with this key, among those so far.
+pub fn look(
+    c: Counts,
+    from: words::NodeNo,
+    kind: u32,
+    symbol: words::SymbolNo,
+    edges: &[u32],
+) -> rows::Found
+    requires { ⌜ rowWidth * c .edges ≤ length (now edges) ⌝ }
+    ensures { λ r. ⌜ Looks c (now (edges .entry)) (from .0) kind (symbol .0) r ⌝ }
+{
+    let end = words::ROW_WIDTH * c.edges;
+    rows::look_up(&edges[0..end], from, kind, symbol)
+}
+
+// An item's edge with no reduces.
+pub fn new_edge(from: words::NodeNo, item: Item, to: words::NodeNo) -> rows::Edge
+    ensures { λ r. ⌜ Holds r (record { from = from .0; kind = item .kind; sym = item .symbol .0; to = to .0; reduces = [] }) ⌝ }
+{
+    let none = rows::Reduce {
+        rule: words::RuleNo(0),
+        offset: 0,
+    };
+    let symbol = item.symbol;
+    rows::Edge {
+        from,
+        kind: item.kind,
+        symbol,
+        to,
+        count: 0,
+        reduces: [none, none, none, none, none],
+    }
+}
+
+// An edge more: 13 where there is no room for it.
+pub fn add_edge(room: Room, c: Counts, e: rows::Edge, edges: &mut [u32]) -> Grew
+    requires { ⌜ Rowed room c (now edges) × (e .to .0 < c .nodes) × (e .count ≤ mostReduces) ⌝ }
+    ensures { λ r. ⌜ ((ns : List ℕ) → Rows room c (addEdge (roomOf room) (grownOf c ns (now (edges .entry))) (edgeIs e)) r ns (now (edges .exit))) ⌝ }
+{
+    let n = c.edges;
+    if room.edges <= n {
+        return Grew::Refused(Fault::NoEdge);
+    }
+    rows::write_edge(edges, n, e);
+    Grew::On(Counts {
+        nodes: c.nodes,
+        edges: n + 1,
+    })
+}
+
+// A node more, with the word `w`, and the item's edge to it from node `from`: 12, then 13.
+pub fn add_node(
+    room: Room,
+    c: Counts,
+    from: words::NodeNo,
+    item: Item,
+    w: u32,
+    nodes: &mut [u32],
+    edges: &mut [u32],
+) -> Grew
+    requires { ⌜ Stands room c (now nodes) (now edges) × (item .kind ≤ 1) ⌝ }
+    ensures { λ r. ⌜ Meets room (addNode (roomOf room) (grownOf c (now (nodes .entry)) (now (edges .entry))) (from .0) (itemIs item) w)
+        r (now (nodes .exit)) (now (edges .exit)) ⌝ }
+{
+    let n = c.nodes;
+    if room.nodes <= n {
+        return Grew::Refused(Fault::NoNode);
+    }
+    nodes[n] = w;
+    let e = new_edge(from, item, words::NodeNo(n as u32));
+    add_edge(
+        room,
+        Counts {
+            nodes: n + 1,
+            edges: c.edges,
+        },
+        e,
+        edges,
+    )
+}
