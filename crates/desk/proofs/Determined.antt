@@ -2,11 +2,12 @@
 use mathlib.Core.Path.{_≡_}
 use denote.Ref.{now}
 use Rattle.rules.specs.Code.{stretchOf}
-use Rattle.desk.specs.Code.{builtIs, verifiedIs}
+use Rattle.desk.specs.Code.{builtIs, parsedIs, verifiedIs}
 use Rattle.desk.specs.laws.Promises.{determined}
 use Rattle.desk.proofs.body.Reads as body
 use Rattle.desk.proofs.body_stretch.Reads as body-stretch
 use Rattle.desk.proofs.build.Reads as build
+use Rattle.desk.proofs.parse.Reads as parse
 use Rattle.desk.proofs.verify.Reads as verify
 
 pub body-determined : (κs : _) (args : _) (r₁ r₂ : _) (x₁ x₂ : _) → body.Post κs args r₁ x₁ → body.Post κs args r₂ x₂ → now r₁ ≡ now r₂
@@ -25,3 +26,9 @@ build-determined κs args r₁ r₂ x₁ x₂ m n = determined m n
 pub verify-determined : (κs : _) (args : _) (r₁ r₂ : _) (x₁ x₂ : _) → verify.Post κs args r₁ x₁ → verify.Post κs args r₂ x₂
     → verifiedIs r₁ (now (x₁ .1 .1 .1 .1 .0)) ≡ verifiedIs r₂ (now (x₂ .1 .1 .1 .1 .0))
 verify-determined κs args r₁ r₂ x₁ x₂ m n = determined m n
+
+-- the seventh, eighth and ninth are the frame, list and work slices
+pub parse-determined : (κs : _) (args : _) (r₁ r₂ : _) (x₁ x₂ : _) → parse.Post κs args r₁ x₁ → parse.Post κs args r₂ x₂
+    → parsedIs r₁ (now (x₁ .1 .1 .1 .1 .1 .1 .0)) (now (x₁ .1 .1 .1 .1 .1 .1 .1 .0)) (now (x₁ .1 .1 .1 .1 .1 .1 .1 .1 .0))
+    ≡ parsedIs r₂ (now (x₂ .1 .1 .1 .1 .1 .1 .0)) (now (x₂ .1 .1 .1 .1 .1 .1 .1 .0)) (now (x₂ .1 .1 .1 .1 .1 .1 .1 .1 .0))
+parse-determined κs args r₁ r₂ x₁ x₂ m n = determined m n

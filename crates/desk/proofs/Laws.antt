@@ -2,19 +2,23 @@
 use mathlib.Core.Path.{_≡_, refl, sym, _∙_, ap, subst}
 use mathlib.Core.Bool.{Bool, true, false}
 use mathlib.Core.List.{List, [], _∷_}
-use Prim.Native.Nat.{ℕ, _*_, _-_, _/_, _≤_}
+use mathlib.Core.Logic.{_≢_}
+use Prim.Native.Nat.{ℕ, zero, suc, _*_, _-_, _/_, _≤_}
 use native.Mathlib.Nat.{sub-zero}
 use native.Mathlib.Omega.{arith}
 use lib.ListN.{length, getD, drop, take}
 use Rattle.words.specs.Limits.{mostNodes, mostEdges, rowWidth}
-use Rattle.words.specs.Lent.{zeros, clearedFrom}
+use Rattle.words.specs.Lent.{zeros, padded, clearedFrom}
 use Rattle.words.specs.Outcome.{Res, demand, firstFault}
 use Rattle.words.specs.laws.Faults.{met, unmet}
 use Rattle.words.specs.laws.Parts.{part-all}
 use Rattle.rules.specs.Rules.{theRules, rulesGood}
+use Rattle.rows.specs.Rows.{tablesGood}
 use Rattle.formula.specs.Check.{check}
-use Rattle.walk.specs.Walk.{wantedOf}
+use Rattle.walk.specs.Walk.{Walked, wantedOf, walk}
 use Rattle.walk.specs.Walk as passes
+use Rattle.walk.specs.Code.{Answers}
+use Rattle.walk.specs.declared.Walked as walked
 use Rattle.words.specs.Numbers.{Fault, faultNumber}
 use Rattle.tree.specs.Grow.{Grown, Room, grow}
 use Rattle.tree.specs.Code.{roomOf, faultOf, Holding, Grows}
@@ -23,8 +27,9 @@ use Rattle.tree.specs.declared.Grew.{Grew}
 use Rattle.tree.specs.declared.Grew.the-variants.{On, Refused}
 use Rattle.tree.specs.declared.Counts.{Counts}
 use Rattle.tree.specs.declared.Room as lent
-use Rattle.desk.specs.Entry.{lesser, Built, notBuilt, buildRoom, builtBy, buildAfter, buildGives, verifyDemands, verifyGives}
-use Rattle.desk.specs.Code.{builtIs, Raised}
+use Rattle.desk.specs.Entry.{lesser, Built, notBuilt, buildRoom, builtBy, buildAfter, buildGives, Asked, Lent, parsed, theTables, parseDemands, walkAfter, walkOf, verifyDemands, verifyGives}
+use Rattle.desk.specs.Code.{builtIs, Raised, parsedIs, Tried}
+use Rattle.desk.specs.declared.Answer.{Answer}
 use Rattle.desk.specs.declared.Made.{Made}
 use Rattle.desk.specs.laws.Promises.{Asks, past, none-fails, lesser-le}
 
@@ -138,3 +143,55 @@ built b m ns es ns′ es′ r d e = λ i. record {
   node-words = (d ∙ r .node-words) i;
   edge-words = (e ∙ r .edge-words) i;
 }
+
+-- ---- a parse
+
+-- the table check, by the count of the rules
+pub counted-tables : {r : Bool} {n m : ℕ} (ns es : List ℕ) → n ≡ m → r ≡ tablesGood n ns es → r ≡ tablesGood m ns es
+counted-tables ns es e h = h ∙ ap (λ (k : ℕ). tablesGood k ns es) e
+
+module _ (q : Asked) (a : ℕ) (m : passes.Room) where
+  refused-by : (k : ℕ) → k ≢ 0 → walkAfter q a m k ≡ passes.refused k 0 0
+  unfolding walkAfter
+  refused-by zero z = absurd (z refl)
+  refused-by (suc k) z = refl
+
+  pub tried-fault : (k : ℕ) (list : List ℕ) → k ≡ firstFault (parseDemands q) → k ≢ 0
+      → Tried (walkOf q a m) (record { number = k; place = 0; length = 0; passes = 0 }) list
+  unfolding walkOf
+  tried-fault k list e z = rw (← e, refused-by k z)
+      (record { number = refl; place = refl; counted = refl; passes = refl; within = omega arith; listed = refl })
+
+  pub walk-goes : firstFault (parseDemands q) ≡ 0
+      → walk (theTables (q .rules) (q .nodes) (q .edges)) (q .provable) (q .logic) a m (q .tokens) ≡ walkOf q a m
+  unfolding walkOf walkAfter
+  walk-goes h = rw h
+
+-- what the walk answered, as what is answered
+pub tried-walk : (o w : Walked) (r : walked.Walked) (list : List ℕ) → Answers r list o → o ≡ w
+    → Tried w (record { number = r .number; place = r .place; length = r .length; passes = r .passes }) list
+tried-walk o w r list h e =
+    let p = h .walked ∙ e in
+    record {
+      number = ap (λ (v : Walked). v .number) p;
+      place = ap (λ (v : Walked). v .place) p;
+      counted = h .length ∙ ap (λ (v : Walked). length (v .list)) e;
+      passes = ap (λ (v : Walked). v .passes) p;
+      within = h .within;
+      listed = ap (λ (v : Walked). v .list) p;
+    }
+
+pub parsed-whole : (s : Lent) (w : Walked) (r : Answer) (list frames′ list′ work′ : List ℕ) → Tried w r list → length list ≡ s .list
+    → frames′ ≡ zeros (s .frames) → list′ ≡ clearedFrom list (r .length) → work′ ≡ zeros (s .work) → parsedIs r frames′ list′ work′ ≡ parsed s w
+unfolding parsed
+parsed-whole s w r list frames′ list′ work′ t e f l k =
+    let z : list′ ≡ padded (w .list) (s .list) = l ∙ rw (t .listed, e) in
+    λ i. record {
+      number = t .number i;
+      place = t .place i;
+      length = t .counted i;
+      passes = t .passes i;
+      frame-words = f i;
+      list-words = z i;
+      work-words = k i;
+    }

@@ -9,8 +9,8 @@ ghost use Rattle.rules.specs.Code.{stretchOf};
 ghost use Rattle.walk.specs.Walk.{wantedOf};
 ghost use Rattle.tree.specs.Code.{faultOf, roomOf};
 ghost use Rattle.words.specs.Numbers.{faultNumber};
-ghost use Rattle.desk.specs.Entry.{lesser, bodyGives, buildRoom, buildGives, verifyDemands, verifyGives};
-ghost use Rattle.desk.specs.Code.{verifiedIs, builtIs, Raised};
+ghost use Rattle.desk.specs.Entry.{lesser, bodyGives, buildRoom, buildGives, parseDemands, walkRoom, walkOf, parseGives, verifyDemands, verifyGives};
+ghost use Rattle.desk.specs.Code.{verifiedIs, builtIs, Raised, parsedIs, Tried, asked, lent};
 
 // What a parse or a check answers: the number, the place, the length of the list and the passes.
 #[repr(C)]
@@ -173,4 +173,103 @@ pub fn verify(
         length: 0,
         passes: 0,
     }
+}
+
+// ---- parse
+
+// The number of the refusal before the walk, or 0.
+fn fault(codes: rules::Codes, rules: &[u32], nodes: &[u32], edges: &[u32], tokens: &[u32]) -> u32
+    ensures { λ r. ⌜ r ≡ firstFault (parseDemands (asked codes (now (rules .entry)) (now (nodes .entry)) (now (edges .entry)) (now (tokens .entry)))) ⌝ }
+{
+    if !rules::rules_good(rules, codes) {
+        return 10;
+    }
+    if !rows::tables_good(rules::count(rules), nodes, edges) {
+        return 8;
+    }
+    if tokens.len() < 2 {
+        return 1;
+    }
+    if words::MOST_TOKENS < tokens.len() {
+        return 9;
+    }
+    0
+}
+
+// The answer, and the list at the front of its slice: what else stands in the slices is not said.
+fn attempt(
+    codes: rules::Codes,
+    rules: &[u32],
+    nodes: &[u32],
+    edges: &[u32],
+    tokens: &[u32],
+    allowance: u32,
+    frames: &mut [u32],
+    list: &mut [u32],
+    work: &mut [u32],
+) -> Answer
+    ensures { λ r. ⌜ Tried (walkOf (asked codes (now (rules .entry)) (now (nodes .entry)) (now (edges .entry)) (now (tokens .entry))) allowance
+        (walkRoom (lent (now (frames .entry)) (now (list .entry)) (now (work .entry))))) r (now (list .exit)) ⌝ }
+{
+    let number = fault(codes, rules, nodes, edges, tokens);
+    if number != 0 {
+        return Answer {
+            number,
+            place: 0,
+            length: 0,
+            passes: 0,
+        };
+    }
+    let w = walk::walk(
+        rules,
+        codes,
+        nodes,
+        edges,
+        tokens,
+        allowance,
+        frames,
+        list,
+        work,
+    );
+    Answer {
+        number: w.number,
+        place: w.place,
+        length: w.length,
+        passes: w.passes,
+    }
+}
+
+// The statement's list of rules, in postfix order, or a refusal. Frame and work slices are zero afterwards; so is the list slice, but for the
+// list of an accepted statement.
+pub fn parse(
+    codes: rules::Codes,
+    rules: &[u32],
+    nodes: &[u32],
+    edges: &[u32],
+    tokens: &[u32],
+    allowance: u32,
+    frames: &mut [u32],
+    list: &mut [u32],
+    work: &mut [u32],
+) -> Answer
+    ensures { λ r. ⌜ parsedIs r (now (frames .exit)) (now (list .exit)) (now (work .exit))
+        ≡ parseGives (asked codes (now (rules .entry)) (now (nodes .entry)) (now (edges .entry)) (now (tokens .entry))) allowance
+        (lent (now (frames .entry)) (now (list .entry)) (now (work .entry))) ⌝ }
+{
+    let a = attempt(
+        codes,
+        rules,
+        nodes,
+        edges,
+        tokens,
+        allowance,
+        frames,
+        list,
+        work,
+    );
+    let n = a.length as usize;
+    words::clear_from(list, n);
+    words::clear(frames);
+    words::clear(work);
+    a
 }

@@ -1,31 +1,27 @@
 -- The check in lent slices: items, pending bodies as words, and one turn.
 use mathlib.Core.Path.{_≡_, refl, sym, ap, subst, _∙_}
+use mathlib.Core.Bool.{Bool, true, false, _&&_}
+use mathlib.Core.Logic.{_≢_}
 use mathlib.Core.List.{List, [], _∷_, _++_}
+use mathlib.Core.Option.{some, Option·some-injective, Option·none-ne-some}
 use Prim.Native.Nat.{ℕ, zero, suc, _+_, _*_, _-_, _/_, _%_, _≤_, _<_}
 use native.Mathlib.Omega.{arith}
 use native.Mathlib.Numerals.{add-one}
 use lib.ListN.{length, getD, take, drop, set, getElem?, length-set}
 use lib.Seq.{take-suc, take-suc-set, take-length}
-use mathlib.Core.Bool.{Bool, true, false, _&&_}
 use lib.Dec.{eqb}
-use mathlib.Core.Logic.{_≢_}
-use mathlib.Core.Option.{some, Option·some-injective, Option·none-ne-some}
+use borrow.Author.Tests.{eq-eqb, ne-eqb}
 use Rattle.words.specs.Limits.{mostItems, itemWidth, mostRules}
 use Rattle.rules.specs.Rules.{Item, con, slot, bodyWords, itemOf, itemsOf, ruleOf, theRules, goodRules}
-use Rattle.rows.specs.declared.Reduce as coded
-use Rattle.rows.specs.declared.Edge as edge
 use Rattle.rules.specs.Code.{aRule, Starts, Missing}
 use Rattle.rules.specs.laws.Words.{good-rule, body-length, body-items, item-at, words-most}
+use Rattle.rules.specs.laws.Every.{All, all-append}
 use Rattle.formula.specs.Check.{check}
 use Rattle.formula.specs.Code.{places, Whole, unread, Pending, Stacked, Turned, Fills, Meets, stillOf, facingOf}
-use Rattle.formula.specs.declared.Trees as held
 use Rattle.formula.specs.declared.Seek.{Seek}
 use Rattle.formula.specs.declared.Turn.{Turn}
 use Rattle.formula.specs.declared.Turn.the-variants.{On, Ended}
 use Rattle.formula.specs.laws.Turns.{start-facing, turn-end, turn-off, turn-item, con-met, con-short, slot-filled, slot-wrong, slot-no-rule, slot-short}
-use Rattle.rules.specs.laws.Every.{All, all-append}
-use borrow.Author.Tests.{eq-eqb, ne-eqb}
-use Rattle.formula.specs.laws.Held.{stands}
 
 -- ---- the items of a body
 

@@ -4,19 +4,19 @@ use mathlib.Core.List.{List, [], _∷_, _++_, append-assoc, append-nil}
 use Prim.Native.Nat.{ℕ, zero, suc, _+_, _-_, _≤_, _<_}
 use native.Mathlib.Omega.{arith}
 use native.Mathlib.Numerals.{add-one}
+use native.Mathlib.Nat.{sub-zero}
 use lib.ListN.{length, getD, take, drop, set, length-append, length-drop, length-map, drop-of-length-le, length-set}
 use lib.Seq.{drop-cons, take-suc, take-suc-set, drop-set-lt, drop-append-le, length-take-le, getD-drop, drop-drop, take-at, drop-at, take-append-le, take-take, take-add, take-nil, split-at}
-use native.Mathlib.Nat.{sub-zero}
 use Rattle.words.specs.Lent.{inserted}
 use Rattle.words.specs.Limits.{mostReduces}
 use Rattle.words.specs.Outcome.{ok}
 use Rattle.words.specs.Numbers.{misfit, noEntry}
 use Rattle.rules.specs.Rules.{Rule, ruleOf, theRules, slots}
+use Rattle.rules.specs.Code.{Starts, Missing}
 use Rattle.rows.specs.Rows.{Reduce}
 use Rattle.rows.specs.Code.{reduceIs, edgeIs}
 use Rattle.rows.specs.declared.Reduce as coded
 use Rattle.rows.specs.declared.Edge as edge
-use Rattle.rules.specs.Code.{Starts, Missing}
 use Rattle.formula.specs.Reducing.{Trees, flat, merge, reduce, reduceAll}
 use Rattle.formula.specs.Code.{treesOf, Inside, Stands, Gives}
 use Rattle.formula.specs.declared.Trees as held

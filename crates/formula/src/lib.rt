@@ -1,16 +1,16 @@
 // A formula's postfix list in lent slices: reducing, and the check.
 ghost use mathlib.Core.Path.{_≡_};
+ghost use mathlib.Core.Bool.{true};
 ghost use mathlib.Core.List.{[], _∷_, _++_};
 ghost use Prim.Native.Nat.{_+_, _-_, _≤_, _<_};
 ghost use lib.ListN.{length, take, drop};
-ghost use mathlib.Core.Bool.{true};
 ghost use Rattle.words.specs.Limits.{mostReduces};
 ghost use Rattle.rules.specs.Rules.{ruleOf, theRules};
 ghost use Rattle.rules.specs.Code.{aRule, someRules};
 ghost use Rattle.rows.specs.Code.{edgeIs};
 ghost use Rattle.formula.specs.Reducing.{merge, reduce, reduceAll};
-ghost use Rattle.formula.specs.Code.{mostRoom, treesOf, Inside, Stands, Gives, itemIs, Whole, Stacked, Turned, Fills, Meets, stillOf};
 ghost use Rattle.formula.specs.Check.{check};
+ghost use Rattle.formula.specs.Code.{mostRoom, treesOf, Inside, Stands, Gives, itemIs, Whole, Stacked, Turned, Fills, Meets, stillOf};
 ghost use Rattle.formula.specs.laws.Flat.{total};
 
 // The trees of a walk. The first `len` words of the list are theirs, the first `count` words of the work slice their sizes, the bottom

@@ -10,7 +10,6 @@ use native.Mathlib.Omega.{arith}
 use lib.Dec.{ltb, eqb}
 use lib.ListN.{length, drop, getD, length-append, drop-of-length-le}
 use lib.Seq.{length-take-le, getD-take}
-use borrow.Author.Tests.{eq-eqb, ne-eqb}
 use Rattle.words.specs.Outcome.{ok, bind, when}
 use Rattle.words.specs.Numbers.{Fault, noNode, noEdge}
 use Rattle.words.specs.Limits.{itemWidth, mostRules}
@@ -77,15 +76,15 @@ module _ (z : lent.Room) (c : Counts) (ns es : List ℕ) (s : Stands z c ns es) 
     unfolding branchAt
     branch-is = rw (getD-take (c .nodes) ns n 0 h)
 
-    pub inner-leaf : (getD ns n 0 ≡ 0 → ⊥) → Places z (innerOf (roomOf z) (grownOf c ns es) n (itemIs i)) (Stuck code.Collides) ns es
+    pub inner-leaf : eqb (getD ns n 0) 0 ≡ false → Places z (innerOf (roomOf z) (grownOf c ns es) n (itemIs i)) (Stuck code.Collides) ns es
     unfolding bind when
-    inner-leaf l = record { answer = λ rest. rw (branch-is, ne-eqb _ _ l); stands = tt }
+    inner-leaf l = record { answer = λ rest. rw (branch-is, l); stands = tt }
 
-    pub last-leaf : (r : ℕ) → (getD ns n 0 ≡ 0 → ⊥) → Meets z (place (roomOf z) r (itemIs i ∷ []) (grownOf c ns es) n) (Refused code.Collides) ns es
+    pub last-leaf : (r : ℕ) → eqb (getD ns n 0) 0 ≡ false → Meets z (place (roomOf z) r (itemIs i ∷ []) (grownOf c ns es) n) (Refused code.Collides) ns es
     unfolding place bind when
-    last-leaf r l = record { answer = rw (branch-is, ne-eqb _ _ l); stands = tt }
+    last-leaf r l = record { answer = rw (branch-is, l); stands = tt }
 
-    module _ (b : getD ns n 0 ≡ 0) (k : i .kind ≤ 1) where
+    module _ (b : eqb (getD ns n 0) 0 ≡ true) (k : i .kind ≤ 1) where
       -- what the code looked up is the item's edge
       edge-is : edgeFor (grownOf c ns es) n (itemIs i) ≡ find (edgesIn (c .edges) es) n (i .kind) (i .symbol .0)
       edge-is = rw (kind-is i k, sym-is i)
@@ -93,24 +92,24 @@ module _ (z : lent.Room) (c : Counts) (ns es : List ℕ) (s : Stands z c ns es) 
       pub inner-made : (r : Placed) (ns′ es′ : List ℕ) → find (edgesIn (c .edges) es) n (i .kind) (i .symbol .0) ≡ none
           → Places z (branchOf (roomOf z) (grownOf c ns es) n (itemIs i)) r ns′ es′ → Places z (innerOf (roomOf z) (grownOf c ns es) n (itemIs i)) r ns′ es′
       unfolding bind when placeInner
-      inner-made r ns′ es′ f p = record { answer = λ rest. rw (branch-is, eq-eqb _ _ b, edge-is, f) (p .answer rest); stands = p .stands }
+      inner-made r ns′ es′ f p = record { answer = λ rest. rw (branch-is, b, edge-is, f) (p .answer rest); stands = p .stands }
 
       pub inner-follows : (row : ℕ) (e : held.Edge) → FoundAt c es n (i .kind) (i .symbol .0) row → Holds e (edgeOf (rowAt es row))
           → Places z (innerOf (roomOf z) (grownOf c ns es) n (itemIs i)) (At c (e .to)) ns es
       unfolding bind when placeInner
       inner-follows row e f o =
           let to = held-to e _ o in
-          record { answer = λ rest. rw (branch-is, eq-eqb _ _ b, edge-is, f .finds, to); stands = (s, read-leads z c es row e (s .rowed) (f .within) o) }
+          record { answer = λ rest. rw (branch-is, b, edge-is, f .finds, to); stands = (s, read-leads z c es row e (s .rowed) (f .within) o) }
 
       pub last-there : (r row : ℕ) → FoundAt c es n (i .kind) (i .symbol .0) row
           → Meets z (place (roomOf z) r (itemIs i ∷ []) (grownOf c ns es) n) (Refused code.Collides) ns es
       unfolding place bind when placeLast
-      last-there r row f = record { answer = rw (branch-is, eq-eqb _ _ b, edge-is, f .finds); stands = tt }
+      last-there r row f = record { answer = rw (branch-is, b, edge-is, f .finds); stands = tt }
 
       pub last-made : (r : ℕ) (a : Grew) (ns′ es′ : List ℕ) → find (edgesIn (c .edges) es) n (i .kind) (i .symbol .0) ≡ none
           → Meets z (addNode (roomOf z) (grownOf c ns es) n (itemIs i) r) a ns′ es′ → Meets z (place (roomOf z) r (itemIs i ∷ []) (grownOf c ns es) n) a ns′ es′
       unfolding place bind when placeLast
-      last-made r a ns′ es′ f m = record { answer = rw (branch-is, eq-eqb _ _ b, edge-is, f) (m .answer); stands = m .stands }
+      last-made r a ns′ es′ f m = record { answer = rw (branch-is, b, edge-is, f) (m .answer); stands = m .stands }
 
 -- ---- a body, from word i on
 

@@ -1,4 +1,4 @@
--- What the code's structs and the two lent slices stand for.
+-- What the code's structs and the two lent slices stand for: first for callers of `grow`, then for its parts.
 use Prim.Native.Nat.{ℕ, _*_, _≤_, _<_}
 use mathlib.Core.Path.{_≡_}
 use mathlib.Core.List.{List}
@@ -29,15 +29,39 @@ use Rattle.tree.specs.declared.place.Placed.the-variants.{At, Stuck}
 abbrev pub roomOf : lent.Room → Room
 roomOf z = record { nodes = z .nodes; edges = z .edges }
 
-abbrev pub itemIs : coded.Item → Item
-itemIs i = itemOf (i .kind) (i .symbol .0)
-
 abbrev pub faultOf : why.Fault → Fault
 faultOf code.Collides = collides
 faultOf code.NoNode = noNode
 faultOf code.NoEdge = noEdge
 faultOf code.SixthReduce = sixthReduce
 faultOf code.BadCopy = badCopy
+
+-- the room lies within the two slices, and node numbers fit
+pub record Within (z : lent.Room) (ns es : List ℕ) : Type 0 where
+  pub nodes : z .nodes ≤ length ns
+  pub few : z .nodes ≤ mostNodes
+  pub edges : rowWidth * z .edges ≤ length es
+
+-- x has grown, and the words before the two counts are its own
+pub record Holding (z : lent.Room) (x : Res Fault Grown) (c : Counts) (ns es : List ℕ) : Type 0 where
+  pub tree : Grown
+  pub grows : x ≡ ok tree
+  pub node-count : c .nodes ≡ length (tree .nodes)
+  pub edge-count : c .edges ≡ length (tree .edges)
+  pub nodes-in : c .nodes ≤ z .nodes
+  pub edges-in : c .edges ≤ z .edges
+  pub nodes : take (c .nodes) ns ≡ tree .nodes
+  pub edges : take (rowWidth * c .edges) es ≡ edgeWords (tree .edges)
+
+-- grown, or refused alike
+abbrev pub Grows : lent.Room → Res Fault Grown → Grew → List ℕ → List ℕ → Type 0
+Grows z x (On c) ns es = Holding z x c ns es
+Grows z x (Refused f) ns es = x ≡ no (faultOf f)
+
+-- ---- what stands in the slices while it grows
+
+abbrev pub itemIs : coded.Item → Item
+itemIs i = itemOf (i .kind) (i .symbol .0)
 
 -- the edges of the first k rows
 unfoldable pub edgesIn : ℕ → List ℕ → List Edge
@@ -140,27 +164,3 @@ copyOf z c n m e g = copyRow z c g m e (eqb (e .from) n) (find (g .edges) m (e .
 
 abbrev pub convertFirst : Room → ℕ → List ℕ → Grown → Res Fault Grown
 convertFirst z n ws g = convert z n (ruleOf ws) g (source (ruleOf ws .body))
-
--- ---- the whole
-
--- the room lies within the two slices, and node numbers fit
-pub record Within (z : lent.Room) (ns es : List ℕ) : Type 0 where
-  pub nodes : z .nodes ≤ length ns
-  pub few : z .nodes ≤ mostNodes
-  pub edges : rowWidth * z .edges ≤ length es
-
--- x has grown, and the words before the two counts are its own
-pub record Holding (z : lent.Room) (x : Res Fault Grown) (c : Counts) (ns es : List ℕ) : Type 0 where
-  pub tree : Grown
-  pub grows : x ≡ ok tree
-  pub node-count : c .nodes ≡ length (tree .nodes)
-  pub edge-count : c .edges ≡ length (tree .edges)
-  pub nodes-in : c .nodes ≤ z .nodes
-  pub edges-in : c .edges ≤ z .edges
-  pub nodes : take (c .nodes) ns ≡ tree .nodes
-  pub edges : take (rowWidth * c .edges) es ≡ edgeWords (tree .edges)
-
--- grown, or refused alike
-abbrev pub Grows : lent.Room → Res Fault Grown → Grew → List ℕ → List ℕ → Type 0
-Grows z x (On c) ns es = Holding z x c ns es
-Grows z x (Refused f) ns es = x ≡ no (faultOf f)

@@ -126,12 +126,7 @@ fn apart(nodes: &[u32], n: words::NodeNo, m: words::NodeNo) -> bool
     if n.0 == m.0 {
         return false;
     }
-    let a = n.0 as usize;
-    if nodes[a] != 0 {
-        return false;
-    }
-    let b = m.0 as usize;
-    nodes[b] == 0
+    table::branch_at(nodes, n) && table::branch_at(nodes, m)
 }
 
 // At a node with the edge `e` for the conversion's result: an edge for its source, or the branches copied.

@@ -55,8 +55,7 @@ fn place_inner(
     ensures { λ r. ⌜ Places room (innerOf (roomOf room) (grownOf c (now (nodes .entry)) (now (edges .entry))) (n .0) (itemIs item))
         r (now (nodes .exit)) (now (edges .exit)) ⌝ }
 {
-    let at = n.0 as usize;
-    if nodes[at] != 0 {
+    if !table::branch_at(nodes, n) {
         return Placed::Stuck(Fault::Collides);
     }
     let symbol = item.symbol;
@@ -82,8 +81,7 @@ fn place_last(
     ensures { λ r. ⌜ Meets room (place (roomOf room) (rule .0) (itemIs item ∷ []) (grownOf c (now (nodes .entry)) (now (edges .entry))) (n .0))
         r (now (nodes .exit)) (now (edges .exit)) ⌝ }
 {
-    let at = n.0 as usize;
-    if nodes[at] != 0 {
+    if !table::branch_at(nodes, n) {
         return Grew::Refused(Fault::Collides);
     }
     let symbol = item.symbol;

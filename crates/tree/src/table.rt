@@ -1,4 +1,4 @@
-// The nodes and edges so far: looked up, and appended.
+// The nodes and edges so far: read, looked up, and appended.
 use super::Counts;
 use super::Fault;
 use super::Grew;
@@ -7,11 +7,21 @@ use super::Room;
 ghost use mathlib.Core.Path.{_≡_};
 ghost use mathlib.Core.List.{List, []};
 ghost use Prim.Native.Nat.{ℕ, _*_, _≤_, _<_};
-ghost use lib.ListN.{length};
+ghost use lib.Dec.{eqb};
+ghost use lib.ListN.{length, getD};
 ghost use Rattle.words.specs.Limits.{rowWidth, mostReduces};
 ghost use Rattle.rows.specs.Code.{edgeIs, Holds};
 ghost use Rattle.tree.specs.Grow.{addEdge, addNode};
 ghost use Rattle.tree.specs.Code.{roomOf, itemIs, grownOf, Looks, Rowed, Stands, Rows, Meets};
+
+// Whether a node is a branch.
+pub fn branch_at(nodes: &[u32], n: words::NodeNo) -> bool
+    requires { ⌜ n .0 < length (now nodes) ⌝ }
+    ensures { λ r. ⌜ r ≡ eqb (getD (now (nodes .entry)) (n .0) 0) 0 ⌝ }
+{
+    let at = n.0 as usize;
+    nodes[at] == 0
+}
 
 // The row of the edge with this key, among those so far.
 pub fn look(

@@ -7,3 +7,4 @@ pub mod Frames
 pub mod Length
 pub mod Sound
 pub mod Examples
+pub mod Ample

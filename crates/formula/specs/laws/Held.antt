@@ -1,9 +1,9 @@
 -- The trees that stand in the code's slices.
 use mathlib.Core.Path.{_≡_, refl, sym, ap, _∙_}
 use mathlib.Core.List.{List, [], _∷_, _++_, reverse, reverse-append, reverse-cons, map}
-use Prim.Native.Nat.{ℕ, zero, suc, _+_, _-_, _≤_}
+use Prim.Native.Nat.{ℕ, _≤_}
 use native.Mathlib.Omega.{arith}
-use lib.ListN.{length, take, drop, length-append, length-drop}
+use lib.ListN.{length, take, drop, length-drop}
 use lib.Seq.{take-all, take-append-le, drop-append-le, length-take-le}
 use Rattle.formula.specs.Reducing.{Trees, flat}
 use Rattle.formula.specs.Code.{mostRoom, pieces, treesOf, Inside, Stands}

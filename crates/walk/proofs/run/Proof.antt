@@ -1,0 +1,99 @@
+use Prim.Native.Nat.{_-_}
+use mathlib.Core.Path.{_≡_, refl, _∙_}
+use native.Mathlib.Omega.{arith}
+use borrow.Author.Needs.{needs}
+use denote.Ref.{now}
+use lib.ListN.{length}
+use Rattle.walk.proofs.Laws.{Walking, ready-start, walking-start, walking-on, end-fits, walking-end, walking-stop, walking-out}
+use Rattle.walk.proofs.run.Statement.{statement}
+use Rattle.walk.proofs.run.Tie as tie
+
+abbrev Inv-loop : tie.InvT-loop
+Inv-loop rules nodes edges goal tokens allowance room frames₀ list₀ work₀ s₀ n₀ frames list work s n =
+    (length list ≡ length list₀) × (length work ≡ length work₀)
+    × Walking rules nodes edges (goal .0) tokens allowance room frames₀ s n frames list work
+
+abbrev μ-loop : tie.MeasureT-loop
+μ-loop rules nodes edges goal tokens allowance room frames₀ list₀ work₀ s₀ n₀ frames list work s n = allowance - n
+
+loop-holds : tie.Need-loop-holds Inv-loop μ-loop
+loop-holds c =
+    let a = c .before .before .before .before .before .before .before .args in
+    let p = c .before .before .before .before .before .before .before .pre in (
+      refl,
+      refl,
+      walking-start (now (a .rules)) (now (a .nodes)) (now (a .edges)) (a .goal .0) (now (a .tokens)) (a .allowance) (a .room) (now (a .frames)) (now (a .list)) (now (a .work))
+          (ready-start (now (a .tokens)) (now (a .frames)) (now (a .list)) (now (a .work)) (p .0) (p .1) (p .2) (p .3)),
+    )
+
+loop-again : tie.Need-loop-again Inv-loop μ-loop
+loop-again c =
+    let a = c .before .before .before .before .before .before .before .before .before .before .before .before .before .before .before .before .before .before .before .before .before .before .args in
+    let l = c .before .before .before .before .before .before .before .before .before .before .before .before .before .before .loop in
+    let w = c .before .before .before .before .before .before .before .before .before .pass in (
+      w .kept .1 .1 .1 .1 .1 .1 .1 .1 .0 ∙ l .inv .0,
+      w .kept .1 .1 .1 .1 .1 .1 .1 .1 .1 .0 ∙ l .inv .1,
+      walking-on (now (a .rules)) (now (a .nodes)) (now (a .edges)) (a .goal .0) (now (a .tokens)) (a .allowance) (a .room) (now (a .frames)) (l .s) (l .n)
+          (l .frames) (l .list) (l .work) (l .inv .2) (c .before .before .before .before .before .before .before .before .before .before .before .before .before .loop-test .taken) (w .ensures) (c .before .turn .given .0 .0) (c .before .turn .given .1)
+          (w .kept .1 .1 .1 .1 .1 .1 .1 .0),
+    )
+
+cast : tie.Need-cast-t26 Inv-loop μ-loop
+cast c =
+    let a = c .before .before .before .before .before .before .before .before .before .before .before .before .before .before .before .before .before .before .before .before .before .before .args in
+    let l = c .before .before .before .before .before .before .before .before .before .before .before .before .before .before .loop in
+    let f = end-fits (now (a .rules)) (now (a .nodes)) (now (a .edges)) (a .goal .0) (now (a .tokens)) (a .allowance) (a .room) (now (a .frames)) (l .s) (l .n)
+    (l .frames) (l .list) (l .work) (l .inv .2) (c .before .before .before .before .before .before .before .before .before .before .before .before .before .loop-test .taken) (c .before .before .before .before .before .before .before .before .before .pass .ensures) (c .before .turn2 .given .0 .0) (c .before .turn2 .given .1) in
+    omega (arith, f)
+
+returns : tie.Need-returns Inv-loop μ-loop
+returns c =
+    let a = c .before .before .before .before .before .before .before .before .before .before .before .before .before .before .before .before .before .before .before .before .before .before .args in
+    let l = c .before .before .before .before .before .before .before .before .before .before .before .before .before .before .loop in
+    walking-end (now (a .rules)) (now (a .nodes)) (now (a .edges)) (a .goal .0) (now (a .tokens)) (a .allowance) (a .room) (now (a .frames)) (l .s) (l .n)
+    (l .frames) (l .list) (l .work) (l .inv .2) (c .before .before .before .before .before .before .before .before .before .before .before .before .before .loop-test .taken) (c .before .before .before .before .before .before .before .before .before .pass .ensures) (c .before .turn2 .given .0 .0) (c .before .turn2 .given .1)
+
+returns-2 : tie.Need-returns-2 Inv-loop μ-loop
+returns-2 c =
+    let a = c .before .before .before .before .before .before .before .before .before .before .before .before .before .before .before .before .before .before .before .before .before .before .before .before .args in
+    let l = c .before .before .before .before .before .before .before .before .before .before .before .before .before .before .before .before .loop in
+    walking-stop (now (a .rules)) (now (a .nodes)) (now (a .edges)) (a .goal .0) (now (a .tokens)) (a .allowance) (a .room) (now (a .frames)) (l .s) (l .n)
+    (l .frames) (l .list) (l .work) (l .inv .2) (c .before .before .before .before .before .before .before .before .before .before .before .before .before .before .before .loop-test .taken) (c .before .before .before .before .before .before .before .before .before .before .before .pass .ensures) (c .before .before .before .turn3 .given .0 .0) (c .before .before .before .turn3 .given .1)
+    (c .before .number .result) (c .place .result) (c .before .number .ensures) (c .place .ensures)
+
+returns-3 : tie.Need-returns-3 Inv-loop μ-loop
+returns-3 c =
+    let a = c .before .before .before .before .before .before .before .before .before .args in
+    let l = c .before .loop in
+    walking-out (now (a .rules)) (now (a .nodes)) (now (a .edges)) (a .goal .0) (now (a .tokens)) (a .allowance) (a .room) (now (a .frames)) (l .s) (l .n)
+    (l .frames) (l .list) (l .work) (l .inv .2) (c .loop-test .left)
+
+pub run-spec : {M : Type 1} → statement M
+run-spec =
+    tie.close
+    (tie.spec
+    Inv-loop
+    μ-loop
+    loop-holds
+    (λ c κs. c .before .before .before .before .loop .inv .2 .ready)
+    (λ c. search needs)
+    (λ c. search needs)
+    (λ c. search needs)
+    loop-again
+    (λ c. search needs)
+    cast
+    (λ c. search needs)
+    (λ c. search needs)
+    (λ c. search needs)
+    returns
+    (λ c. search needs)
+    (λ c κs. search needs)
+    (λ c κs. search needs)
+    (λ c. search needs)
+    (λ c. search needs)
+    (λ c. search needs)
+    returns-2
+    (λ c. search needs)
+    (λ c. search needs)
+    (λ c. search needs)
+    returns-3)
