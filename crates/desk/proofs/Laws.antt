@@ -9,7 +9,7 @@ use native.Mathlib.Omega.{arith}
 use lib.ListN.{length, getD, drop, take}
 use Rattle.words.specs.Limits.{mostNodes, mostEdges, rowWidth}
 use Rattle.words.specs.Lent.{zeros, padded, clearedFrom}
-use Rattle.words.specs.Outcome.{Res, demand, firstFault}
+use Rattle.words.specs.Outcome.{Res, lesser, demand, firstFault}
 use Rattle.words.specs.laws.Faults.{met, unmet}
 use Rattle.words.specs.laws.Parts.{part-all}
 use Rattle.rules.specs.Rules.{theRules, rulesGood}
@@ -27,11 +27,12 @@ use Rattle.tree.specs.declared.Grew.{Grew}
 use Rattle.tree.specs.declared.Grew.the-variants.{On, Refused}
 use Rattle.tree.specs.declared.Counts.{Counts}
 use Rattle.tree.specs.declared.Room as lent
-use Rattle.desk.specs.Entry.{lesser, Built, notBuilt, buildRoom, builtBy, buildAfter, buildGives, Asked, Lent, parsed, theTables, parseDemands, walkAfter, walkOf, verifyDemands, verifyGives}
+use Rattle.desk.specs.Entry.{Built, notBuilt, buildRoom, builtBy, buildAfter, buildGives, Asked, Lent, parsed, theTables, parseDemands, walkAfter, walkOf, verifyDemands, verifyGives}
 use Rattle.desk.specs.Code.{builtIs, Raised, parsedIs, Tried}
 use Rattle.desk.specs.declared.Answer.{Answer}
 use Rattle.desk.specs.declared.Made.{Made}
-use Rattle.desk.specs.laws.Promises.{Asks, past, none-fails, lesser-le}
+use Rattle.desk.specs.laws.Promises.{Asks, past, none-fails}
+use Rattle.words.specs.laws.Tests.{lesser-le}
 
 module _ (provable logic : ℕ) (rules tokens list : List ℕ) (work : ℕ) where
   pub verified : (number : ℕ) (after : List ℕ) → number ≡ firstFault (verifyDemands provable logic rules tokens list work) → after ≡ zeros work

@@ -7,7 +7,7 @@ use lib.ListN.{length, getD, drop}
 use Rattle.words.specs.Limits.{mostRules, mostNodes, mostEdges, rowWidth, mostTokens}
 use Rattle.words.specs.Lent.{zeros, padded}
 use Rattle.words.specs.Numbers.{Fault, faultNumber, numbering}
-use Rattle.words.specs.Outcome.{Res, ok, no, pick, Demand, demand, firstFault}
+use Rattle.words.specs.Outcome.{Res, ok, no, pick, lesser, Demand, demand, firstFault}
 use Rattle.rules.specs.Rules.{Rule, theRules, rulesGood, Stretch, noStretch, stretchFrom, reading}
 use Rattle.rows.specs.Rows.{edgesOf, edgeWords, tablesGood, tabling}
 use Rattle.tree.specs.Grow.{Grown, grow, growing}
@@ -16,10 +16,6 @@ use Rattle.formula.specs.Check.{check}
 use Rattle.formula.specs.Meaning.{Tree}
 use Rattle.walk.specs.Walk.{Tables, tablesOf, Walked, wantedOf, walk, walking}
 use Rattle.walk.specs.Walk as passes
-
--- the smaller of two rooms
-abbrev pub lesser : ℕ → ℕ → ℕ
-lesser a b = pick (leb a b) a b
 
 -- ---- `body`: where a rule's body stands; an empty stretch for bad rules, or for a number that names no rule
 

@@ -6,10 +6,9 @@ ghost use lib.ListN.{length, getD};
 ghost use Rattle.words.specs.Outcome.{firstFault};
 ghost use Rattle.rules.specs.Rules.{cut};
 ghost use Rattle.rules.specs.Code.{stretchOf};
-ghost use Rattle.walk.specs.Walk.{wantedOf};
 ghost use Rattle.tree.specs.Code.{faultOf, roomOf};
 ghost use Rattle.words.specs.Numbers.{faultNumber};
-ghost use Rattle.desk.specs.Entry.{lesser, bodyGives, buildRoom, buildGives, parseDemands, walkRoom, walkOf, parseGives, verifyDemands, verifyGives};
+ghost use Rattle.desk.specs.Entry.{bodyGives, buildRoom, buildGives, parseDemands, walkRoom, walkOf, parseGives, verifyDemands, verifyGives};
 ghost use Rattle.desk.specs.Code.{verifiedIs, builtIs, Raised, parsedIs, Tried, asked, lent};
 
 // What a parse or a check answers: the number, the place, the length of the list and the passes.
@@ -47,22 +46,13 @@ pub fn body_stretch(codes: rules::Codes, rules: &[u32], no: words::RuleNo) -> ru
 
 // ---- build
 
-fn lesser(a: usize, b: usize) -> usize
-    ensures { λ r. ⌜ r ≡ lesser a b ⌝ }
-{
-    if a <= b {
-        return a;
-    }
-    b
-}
-
 // The room of two slices: their whole rows, or the limits.
 fn build_room(nodes: usize, edges: usize) -> tree::Room
     ensures { λ r. ⌜ roomOf r ≡ buildRoom nodes edges ⌝ }
 {
     tree::Room {
-        nodes: lesser(nodes, words::MOST_NODES),
-        edges: lesser(edges / words::ROW_WIDTH, words::MOST_EDGES),
+        nodes: words::lesser(nodes, words::MOST_NODES),
+        edges: words::lesser(edges / words::ROW_WIDTH, words::MOST_EDGES),
     }
 }
 
@@ -120,16 +110,6 @@ pub fn build(codes: rules::Codes, rules: &[u32], nodes: &mut [u32], edges: &mut 
 
 // ---- verify
 
-// The typecode that a statement wants: the logic one where the provable one is stated.
-fn wanted(codes: rules::Codes, stated: u32) -> words::SymbolNo
-    ensures { λ r. ⌜ r .0 ≡ wantedOf (codes .provable .0) (codes .logic .0) stated ⌝ }
-{
-    if stated == codes.provable.0 {
-        return codes.logic;
-    }
-    words::SymbolNo(stated)
-}
-
 // The number alone: what stands in the work slice afterwards is not said.
 fn judge(codes: rules::Codes, rules: &[u32], tokens: &[u32], list: &[u32], work: &mut [u32]) -> u32
     ensures { λ r. ⌜ r ≡ firstFault (verifyDemands (codes .provable .0) (codes .logic .0) (now (rules .entry)) (now (tokens .entry)) (now (list .entry))
@@ -147,7 +127,7 @@ fn judge(codes: rules::Codes, rules: &[u32], tokens: &[u32], list: &[u32], work:
     if work.len() < list.len() {
         return 7;
     }
-    let goal = wanted(codes, tokens[0]);
+    let goal = walk::goal_of(codes, tokens[0]);
     if !formula::check(rules, goal, &tokens[1..], list, work) {
         return 4;
     }

@@ -176,8 +176,9 @@ abbrev pub Passes : List ℕ → List ℕ → List ℕ → ℕ → List ℕ → 
 Passes rs ns es goal ts room s fs ls ws r fs′ ls′ ws′ =
     Gives room r ts fs′ ls′ ws′ (pass (tables rs ns es) goal (drop 1 ts) (roomOf room fs) (stateOf s ts fs ls ws))
 
-abbrev pub lesser : ℕ → ℕ → ℕ
-lesser a b = pick (leb a b) a b
+-- where a walk starts
+abbrev pub startAt : At
+startAt = record { node = record { 0 = 0 }; frames = 0; trees = record { count = 0; len = 0 }; token = 1; last = 0 }
 
 -- slices of these lengths have the room
 pub record Lent (room l w : ℕ) : Type 0 where

@@ -5,16 +5,17 @@ ghost use Prim.Native.Nat.{_/_, _≤_, _<_};
 ghost use lib.ListN.{length, getD, drop};
 ghost use Rattle.words.specs.Limits.{rowWidth, mostReduces, mostTokens};
 ghost use Rattle.words.specs.Numbers.{number, place};
+ghost use Rattle.words.specs.Outcome.{lesser};
 ghost use Rattle.rules.specs.Rules.{theRules, ruleOf, rulesGood};
 ghost use Rattle.rules.specs.Code.{aRule, someRules};
 ghost use Rattle.rows.specs.Rows.{edgeOf, tablesGood};
 ghost use Rattle.rows.specs.Code.{rowAt};
 ghost use Rattle.formula.specs.Code.{Inside};
 ghost use Rattle.walk.specs.Walk.{pass, run, start, wantedOf, walk};
-ghost use Rattle.walk.specs.Code.{stack, whyOf, Wants, Converts, Chooses, Fit, Follows, Roots, Opens, Branches, Lies, Finishes, Closes, Ready, Unwanted, Completes, Leaves, Passes, Lent, lesser, roomOf, tables, Answers};
+ghost use Rattle.walk.specs.Code.{stack, whyOf, Wants, Converts, Chooses, Fit, Follows, Roots, Opens, Branches, Lies, Finishes, Closes, Ready, Unwanted, Completes, Leaves, Passes, startAt, Lent, roomOf, tables, Answers};
 
-// A tree's size is one word.
-pub const MOST_ROOM: usize = 4294967295;
+// List room past this is not used: a tree's size is one word, and no walk comes near it.
+const MOST_ROOM: usize = 4294967295;
 
 // Where a walk stands: its node, how many frames and which trees are in use, the place of the next token, and the last one noted.
 pub struct At {
@@ -260,11 +261,12 @@ fn branch(
         return open_frame(edges, s, frames);
     };
     let trees = s.trees;
+    let next = i + 1;
     let taken = At {
         node,
         frames: s.frames,
         trees,
-        token: i + 1,
+        token: next,
         last: i as u32,
     };
     follow(rules, edges, row, taken, room, list, work)
@@ -337,7 +339,8 @@ fn unwanted(
     ensures { λ r. ⌜ Unwanted (now (rules .entry)) (now (edges .entry)) (goal .0) (now (tokens .entry)) room s (now (frames .entry))
         (now (list .entry)) (now (work .entry)) r (now (list .exit)) (now (work .exit)) (t .0) ⌝ }
 {
-    if s.token < tokens.len() {
+    let i = s.token;
+    if i < tokens.len() {
         return root_step(rules, edges, t, s, room, list, work);
     }
     let n = s.frames;
@@ -366,8 +369,8 @@ fn pop_frame(
         (now (list .entry)) (now (work .entry)) r (now (list .exit)) (now (work .exit)) (t .0) ⌝ }
 {
     let n = s.frames;
-    let top = words::NodeNo(frames[n - 1]);
-    let rows::Found::Row(row) = rows::look_up(edges, top, 1, t) else {
+    let popped = words::NodeNo(frames[n - 1]);
+    let rows::Found::Row(row) = rows::look_up(edges, popped, 1, t) else {
         return unwanted(rules, edges, goal, tokens, t, s, room, frames, list, work);
     };
     let node = s.node;
@@ -454,14 +457,14 @@ fn leaf(
     };
     let t = rules::result_of(&rules[i..]);
     let trees = s.trees;
-    let r = formula::reduce(rules, room, list, work, trees, rule, 0);
-    match r {
-        formula::Reduced::Done(reduced) => {
+    let done = formula::reduce(rules, room, list, work, trees, rule, 0);
+    match done {
+        formula::Reduced::Done(grown) => {
             let node = s.node;
             let q = At {
                 node,
                 frames: s.frames,
-                trees: reduced,
+                trees: grown,
                 token: s.token,
                 last: s.last,
             };
@@ -521,6 +524,30 @@ fn pass(
     )
 }
 
+// A walk starts at node 0, with its typecode taken.
+fn start() -> At
+    ensures { λ r. ⌜ r ≡ startAt ⌝ }
+{
+    At {
+        node: words::NodeNo(0),
+        frames: 0,
+        trees: formula::Trees { count: 0, len: 0 },
+        token: 1,
+        last: 0,
+    }
+}
+
+fn refused(number: u32, place: u32, passes: u32) -> Walked
+    ensures { λ r. ⌜ r ≡ record { number = number; place = place; length = 0; passes = passes } ⌝ }
+{
+    Walked {
+        number,
+        place,
+        length: 0,
+        passes,
+    }
+}
+
 // Passes until one ends the walk, or the allowance is used up.
 fn run(
     rules: &[u32],
@@ -539,13 +566,7 @@ fn run(
     ensures { λ r. ⌜ Answers r (now (list .exit)) (run (pass (tables (now (rules .entry)) (now (nodes .entry)) (now (edges .entry))) (goal .0) (drop 1 (now (tokens .entry))))
         allowance (roomOf room (now (frames .entry))) 0 (start (drop 1 (now (tokens .entry))))) ⌝ }
 {
-    let mut s = At {
-        node: words::NodeNo(0),
-        frames: 0,
-        trees: formula::Trees { count: 0, len: 0 },
-        token: 1,
-        last: 0,
-    };
+    let mut s = start();
     let mut n: u32 = 0;
     while n < allowance {
         let turn = pass(
@@ -574,42 +595,23 @@ fn run(
                 };
             }
             Turn::Stop(y) => {
-                return Walked {
-                    number: number(y),
-                    place: place(y),
-                    length: 0,
-                    passes: n,
-                };
+                return refused(number(y), place(y), n);
             }
         }
     }
-    Walked {
-        number: 5,
-        place: 0,
-        length: 0,
-        passes: n,
-    }
+    refused(5, 0, n)
 }
 
 // ---- the walk
 
 // The typecode wanted without frames: the logic one where the provable one is stated.
-fn goal_of(codes: rules::Codes, stated: u32) -> words::SymbolNo
+pub fn goal_of(codes: rules::Codes, stated: u32) -> words::SymbolNo
     ensures { λ r. ⌜ r .0 ≡ wantedOf (codes .provable .0) (codes .logic .0) stated ⌝ }
 {
     if stated == codes.provable.0 {
         return codes.logic;
     }
     words::SymbolNo(stated)
-}
-
-fn lesser(a: usize, b: usize) -> usize
-    ensures { λ r. ⌜ r ≡ lesser a b ⌝ }
-{
-    if a <= b {
-        return a;
-    }
-    b
 }
 
 // The walk of a statement, its typecode first. The tables have passed their checks.
@@ -632,8 +634,8 @@ pub fn walk(
         (roomOf (lesser (length (now (list .entry))) (length (now (work .entry)))) (now (frames .entry))) (now (tokens .entry))) ⌝ }
 {
     let goal = goal_of(codes, tokens[0]);
-    let shorter = lesser(list.len(), work.len());
-    let room = lesser(shorter, MOST_ROOM);
+    let shorter = words::lesser(list.len(), work.len());
+    let room = words::lesser(shorter, MOST_ROOM);
     run(
         rules,
         nodes,

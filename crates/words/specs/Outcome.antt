@@ -2,7 +2,7 @@
 use mathlib.Core.Bool.{Bool, true, false, _&&_}
 use mathlib.Core.List.{List, [], _∷_}
 use Prim.Native.Nat.{ℕ, zero, suc}
-use lib.Dec.{eqb}
+use lib.Dec.{eqb, leb}
 
 pub data Res (E A : Type 0) : Type 0 where
   ok : A → Res E A
@@ -21,6 +21,10 @@ when false y a = no y
 abbrev pub pick : {A : Type 0} → Bool → A → A → A
 pick true a b = a
 pick false a b = b
+
+-- the smaller of two rooms
+abbrev pub lesser : ℕ → ℕ → ℕ
+lesser a b = pick (leb a b) a b
 
 -- a test, and the number that is answered where it fails
 pub record Demand : Type 0 where

@@ -3,6 +3,7 @@ ghost use mathlib.Core.Path.{_≡_};
 ghost use Prim.Native.Nat.{_≤_, _<_};
 ghost use lib.ListN.{length};
 ghost use Rattle.words.specs.Lent.{zeros, padded, clearedFrom, inserted};
+ghost use Rattle.words.specs.Outcome.{lesser};
 
 // Symbols and typecodes are 1 to this.
 pub const MOST_SYMBOL: u32 = 65535;
@@ -30,6 +31,16 @@ pub struct RuleNo(pub u32);
 pub struct NodeNo(pub u32);
 
 pub struct SymbolNo(pub u32);
+
+// The smaller of two rooms.
+pub fn lesser(a: usize, b: usize) -> usize
+    ensures { λ r. ⌜ r ≡ lesser a b ⌝ }
+{
+    if a <= b {
+        return a;
+    }
+    b
+}
 
 // Every word 0.
 pub fn clear(s: &mut [u32])

@@ -42,11 +42,11 @@ asks c = record {
   room = search needs;
 }
 
-shared-slice-read-wanted : tie.Need-shared-slice-read-wanted
-shared-slice-read-wanted c = search needs
+shared-slice-read-goal-of : tie.Need-shared-slice-read-goal-of
+shared-slice-read-goal-of c = search needs
 
-wanted-requires : tie.Need-wanted-requires
-wanted-requires c κs = search needs
+goal-of-requires : tie.Need-goal-of-requires
+goal-of-requires c κs = search needs
 
 sub-check : tie.Need-sub-check
 sub-check c = search needs
@@ -69,7 +69,7 @@ returns-5 : tie.Need-returns-5
 unfolding firstFault
 returns-5 c =
     let h = asks (c .before .before .before .before .before .before .before .before) in
-    sym (decided _ _ _ _ _ _ _ _ h (c .before .before .before .before .before .before .wanted .ensures) (c .before .before .before .check .ensures) ∙ unmet {b = c .before .before .before .check .result} (not-true _ (c .if5 .taken)) 4 [])
+    sym (decided _ _ _ _ _ _ _ _ h (c .before .before .before .before .before .before .goal-of .ensures) (c .before .before .before .check .ensures) ∙ unmet {b = c .before .before .before .check .result} (not-true _ (c .if5 .taken)) 4 [])
 
 same-length-2 : tie.Need-same-length-2
 same-length-2 c = search needs
@@ -78,7 +78,7 @@ returns-6 : tie.Need-returns-6
 unfolding firstFault
 returns-6 c =
     let h = asks (c .before .before .before .before .before .before .before .before) in
-    sym (decided _ _ _ _ _ _ _ _ h (c .before .before .before .before .before .before .wanted .ensures) (c .before .before .before .check .ensures) ∙ met {b = c .before .before .before .check .result} (not-false _ (c .if5 .left)) 4 [])
+    sym (decided _ _ _ _ _ _ _ _ h (c .before .before .before .before .before .before .goal-of .ensures) (c .before .before .before .check .ensures) ∙ met {b = c .before .before .before .check .result} (not-false _ (c .if5 .left)) 4 [])
 
 pub judge-spec : {M : Type 1} → statement M
 judge-spec =
@@ -89,8 +89,8 @@ judge-spec =
     returns-2
     returns-3
     returns-4
-    shared-slice-read-wanted
-    wanted-requires
+    shared-slice-read-goal-of
+    goal-of-requires
     sub-check
     part-check-start
     part-check-end

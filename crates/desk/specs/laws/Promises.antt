@@ -12,9 +12,9 @@ use lib.Seq.{take-at}
 use borrow.Author.Tests.{leb-true, leb-false, ltb-false, not-true, le-ltb}
 use Rattle.words.specs.Limits.{mostTokens, mostNodes, mostEdges, rowWidth}
 use Rattle.words.specs.Lent.{zeros, padded}
-use Rattle.words.specs.Outcome.{Res, ok, no, Demand, demand, firstFault, pick}
+use Rattle.words.specs.Outcome.{Res, ok, no, lesser, Demand, demand, firstFault}
 use Rattle.words.specs.Numbers.{Fault, collides, noNode, noEdge, sixthReduce, badCopy, faultNumber}
-use Rattle.words.specs.laws.Tests.{by-test}
+use Rattle.words.specs.laws.Tests.{lesser-le, lesser-is}
 use Rattle.words.specs.laws.Faults.{met, unmet, Clear, clear, Each, none-left, one-more, fault-is}
 use Rattle.rules.specs.Rules.{Rule, theRules, rulesGood, Stretch}
 use Rattle.rules.specs.laws.Proper.{Proper, rules-proper}
@@ -35,7 +35,7 @@ use Rattle.walk.specs.laws.Bound.{walk-bound}
 use Rattle.walk.specs.laws.Frames.{walk-frames}
 use Rattle.walk.specs.laws.Length.{walk-list}
 use Rattle.walk.specs.laws.Sound.{walk-checked, walk-unlisted, walk-numbers}
-use Rattle.desk.specs.Entry.{lesser, bodyGives, Built, notBuilt, builtBy, buildAfter, buildRoom, buildGives, Parsed, Lent, walkRoom, parsed, theTables, Asked, parseDemands, walkAfter, walkOf, parseGives, verifyDemands, Verified, verifyGives, Means}
+use Rattle.desk.specs.Entry.{bodyGives, Built, notBuilt, builtBy, buildAfter, buildRoom, buildGives, Parsed, Lent, walkRoom, parsed, theTables, Asked, parseDemands, walkAfter, walkOf, parseGives, verifyDemands, Verified, verifyGives, Means}
 
 -- ---- determined: what an entry point gives back is a value of its definition, so two results that meet it are one, every lent word included
 
@@ -101,12 +101,6 @@ pub record Wider (s s′ : Lent) : Type 0 where
   pub frames : s .frames ≤ s′ .frames
   pub list : s .list ≤ s′ .list
   pub work : s .work ≤ s′ .work
-
-pub lesser-le : (a b : ℕ) → (lesser a b ≤ a) × (lesser a b ≤ b)
-lesser-le a b = by-test (λ n. (n ≤ a) × (n ≤ b)) (leb a b) (λ h. (omega arith, leb-true a b h)) λ h. (omega (arith, leb-false a b h), omega arith)
-
-pub lesser-is : (a b n : ℕ) → n ≤ a → n ≤ b → n ≤ lesser a b
-lesser-is a b n h k = by-test (λ x. n ≤ x) (leb a b) (λ _. h) λ _. k
 
 room-grows : (s s′ : Lent) → Wider s s′ → More (walkRoom s) (walkRoom s′)
 room-grows s s′ w =

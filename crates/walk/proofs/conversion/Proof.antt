@@ -31,14 +31,16 @@ converts-requires c κs = (rw (part-all (now (c .before .before .before .before 
 returns : tie.Need-returns Inv-loop μ-loop
 returns c =
     let l = c .before .before .before .before .loop in
-    let a = c .before .before .before .before .before .before .before .before .args in
+    let st = c .before .before .before .before .before .before .before .before in
+    let a = st .args in
     trying-here (now (a .edges)) (a .goal .0) (stack (a .n) (now (a .frames))) (now (a .rules)) (a .t .0) (l .i) (l .k) (l .inv .1)
     (c .before .before .before .loop-test .taken) (c .before .converts .ensures) (c .if1 .taken)
 
 size-of-requires : tie.Need-size-of-requires Inv-loop μ-loop
 size-of-requires c κs =
     let ws = now (c .before .before .before .before .before .before .before .before .before .args .rules) in
-    rw (part-all ws (c .before .before .before .before .before .loop .i)) (omega (arith, length-drop (c .before .before .before .before .before .loop .i) ws, here (c .before .before .before .before) .two))
+    rw (part-all ws (c .before .before .before .before .before .loop .i))
+    (omega (arith, length-drop (c .before .before .before .before .before .loop .i) ws, here (c .before .before .before .before) .two))
 
 -- its size
 size : (c : tie.After-size-of Inv-loop μ-loop) → c .size-of .result ≡ sizeOf (drop (c .before .before .before .before .before .before .loop .i) (now (c .before .before .before .before .before .before .before .before .before .before .args .rules)))
@@ -57,7 +59,8 @@ loop-again c =
 returns-2 : tie.Need-returns-2 Inv-loop μ-loop
 returns-2 c =
     let l = c .before .loop in
-    let a = c .before .before .before .before .before .args in
+    let st = c .before .before .before .before .before in
+    let a = st .args in
     trying-end (now (a .edges)) (a .goal .0) (stack (a .n) (now (a .frames))) (now (a .rules)) (a .t .0) (l .i) (l .k) (l .inv .1) (search needs)
 
 pub conversion-spec : {M : Type 1} → statement M
@@ -67,8 +70,9 @@ conversion-spec =
     Inv-loop
     μ-loop
     (λ c.
-    let a = c .before .before .before .args in
-    (search needs, trying-start (now (a .edges)) (a .goal .0) (stack (a .n) (now (a .frames))) (now (a .rules)) (a .t .0) (c .before .before .before .pre .0)))
+    let st = c .before .before .before in
+    let a = st .args in
+    (search needs, trying-start (now (a .edges)) (a .goal .0) (stack (a .n) (now (a .frames))) (now (a .rules)) (a .t .0) (st .pre .0)))
     (λ c. omega (arith, here c .counted, rules-most mostRules (now (c .before .before .before .before .before .args .rules))))
     (λ c. search needs)
     (λ c. search needs)

@@ -3,47 +3,68 @@ use borrow.Author.Needs.{needs}
 use denote.Ref.{now}
 use Rattle.words.specs.laws.Parts.{part-all}
 use Rattle.rules.specs.Code.{Starts}
-use Rattle.walk.proofs.Laws.{done-inside, starts-at, is-missing, leaf-missing, leaf-done, leaf-few, leaf-full}
+use Rattle.walk.proofs.Parts.{done-inside, starts-at, is-missing, leaf-missing, leaf-done, leaf-few, leaf-full}
 use Rattle.walk.proofs.leaf.Statement.{statement}
 use Rattle.walk.proofs.leaf.Tie as tie
 
 returns : tie.Need-returns
 returns c =
-    let a = c .before .before .before .before .before .before .before .before .before .args in
+    let st = c .before .before .before .before .before .before .before .before .before in
+    let a = st .args in
     leaf-missing (now (a .rules)) (now (a .edges)) (a .goal .0) (now (a .tokens)) (a .room) (a .s) (now (a .frames)) (now (a .list)) (now (a .work)) (a .rule .0)
     (is-missing (now (a .rules)) (a .rule .0) (c .before .before .find-rule .ensures) (c .enum-told .given .1))
 
 -- the rule stands at word i
-here : (c : tie.After-known-told) → Starts (now (c .before .before .before .before .before .before .before .before .before .before .args .rules)) (c .before .before .before .before .before .before .before .before .before .before .args .rule .0) (c .before .i .given .0 .0)
-here c = starts-at (now (c .before .before .before .before .before .before .before .before .before .before .args .rules)) (c .before .before .before .before .before .before .before .before .before .before .args .rule .0) (c .before .before .before .find-rule .ensures) (c .before .i .given .0 .0) (c .before .i .given .1)
+here : (c : tie.After-known-told) →
+    let a = c .before .before .before .before .before .before .before .before .before .before .args in
+    Starts (now (a .rules)) (a .rule .0) (c .before .i .given .0 .0)
+here c =
+    let a = c .before .before .before .before .before .before .before .before .before .before .args in
+    let i = c .before .i .given in
+    starts-at (now (a .rules)) (a .rule .0) (c .before .before .before .find-rule .ensures) (i .0 .0) (i .1)
 
 complete-requires : tie.Need-complete-requires
 complete-requires c κs =
-    let p = c .before .before .before .before .before .before .before .before .before .before .before .before .before .before .before .before .before .before .before .before .before .before .before .before .before .before .pre in
+    let st = c .before .before .before .before .before .before .before .before .before .before .before .before .before .before .before .before .before .before .before .before .before .before .before .before .before .before in
+    let p = st .pre in
+    let r = c .before .before .before .before .done .given in
     record {
       fit = p .fit;
       short = p .short;
       placed = record { begun = p .placed .begun; token = p .placed .token; frames = p .placed .frames };
-      inside = done-inside (c .before .before .before .before .before .before .before .before .before .before .before .before .before .before .before .before .before .before .before .before .before .before .before .before .before .before .args .room) (c .before .before .before .before .before .before .before .before .before .before .reduce .ensures) (c .before .before .before .before .r .given .0 .0) (c .before .before .before .before .r .given .1);
+      inside = done-inside (st .args .room) (c .before .before .before .before .before .before .before .before .before .before .reduce .ensures) (r .0 .0) (r .1);
     }
 
 returns-2 : tie.Need-returns-2
 returns-2 c =
-    let a = c .before .before .before .before .before .before .before .before .before .before .before .before .before .before .before .before .before .before .before .before .before .before .before .before .before .before .before .before .before .before .before .args in
+    let st = c .before .before .before .before .before .before .before .before .before .before .before .before .before .before .before .before .before .before .before .before .before .before .before .before .before .before .before .before .before .before .before in
+    let a = st .args in
     leaf-done (now (a .rules)) (now (a .edges)) (a .goal .0) (now (a .tokens)) (a .room) (a .s) (now (a .frames)) (now (a .list)) (now (a .work)) (a .rule .0)
-    (c .before .before .before .before .before .before .before .before .before .before .before .before .before .before .before .before .before .before .before .before .before .before .i .given .0 .0) (here (c .before .before .before .before .before .before .before .before .before .before .before .before .before .before .before .before .before .before .before .before .before)) (c .before .before .before .before .before .before .before .before .before .before .before .before .before .before .before .reduce .ensures) (c .before .before .before .before .before .before .before .before .before .r .given .0 .0) (c .before .before .before .before .before .before .before .before .before .r .given .1) (c .before .before .before .before .before .before .before .before .before .before .before .before .before .before .before .before .before .before .before .result-of .ensures) (c .before .before .before .before .complete .ensures)
+    (c .before .before .before .before .before .before .before .before .before .before .before .before .before .before .before .before .before .before .before .before .before .before .i .given .0 .0)
+    (here (c .before .before .before .before .before .before .before .before .before .before .before .before .before .before .before .before .before .before .before .before .before))
+    (c .before .before .before .before .before .before .before .before .before .before .before .before .before .before .before .reduce .ensures)
+    (c .before .before .before .before .before .before .before .before .before .done .given .0 .0)
+    (c .before .before .before .before .before .before .before .before .before .done .given .1)
+    (c .before .before .before .before .before .before .before .before .before .before .before .before .before .before .before .before .before .before .before .result-of .ensures)
+    (c .before .before .before .before .complete .ensures)
 
 returns-3 : tie.Need-returns-3
 returns-3 c =
-    let a = c .before .before .before .before .before .before .before .before .before .before .before .before .before .before .before .before .before .before .before .before .before .before .args in
+    let st = c .before .before .before .before .before .before .before .before .before .before .before .before .before .before .before .before .before .before .before .before .before .before in
+    let a = st .args in
     leaf-few (now (a .rules)) (now (a .edges)) (a .goal .0) (now (a .tokens)) (a .room) (a .s) (now (a .frames)) (now (a .list)) (now (a .work)) (a .rule .0)
-    (c .before .before .before .before .before .before .before .before .before .before .before .before .before .i .given .0 .0) (here (c .before .before .before .before .before .before .before .before .before .before .before .before)) (c .before .before .before .before .before .before .reduce .ensures) (c .enum-told2 .given .1)
+    (c .before .before .before .before .before .before .before .before .before .before .before .before .before .i .given .0 .0)
+    (here (c .before .before .before .before .before .before .before .before .before .before .before .before))
+    (c .before .before .before .before .before .before .reduce .ensures) (c .enum-told2 .given .1)
 
 returns-4 : tie.Need-returns-4
 returns-4 c =
-    let a = c .before .before .before .before .before .before .before .before .before .before .before .before .before .before .before .before .before .before .before .before .before .before .args in
+    let st = c .before .before .before .before .before .before .before .before .before .before .before .before .before .before .before .before .before .before .before .before .before .before in
+    let a = st .args in
     leaf-full (now (a .rules)) (now (a .edges)) (a .goal .0) (now (a .tokens)) (a .room) (a .s) (now (a .frames)) (now (a .list)) (now (a .work)) (a .rule .0)
-    (c .before .before .before .before .before .before .before .before .before .before .before .before .before .i .given .0 .0) (here (c .before .before .before .before .before .before .before .before .before .before .before .before)) (c .before .before .before .before .before .before .reduce .ensures) (c .enum-told3 .given .1)
+    (c .before .before .before .before .before .before .before .before .before .before .before .before .before .i .given .0 .0)
+    (here (c .before .before .before .before .before .before .before .before .before .before .before .before))
+    (c .before .before .before .before .before .before .reduce .ensures) (c .enum-told3 .given .1)
 
 pub leaf-spec : {M : Type 1} → statement M
 leaf-spec =

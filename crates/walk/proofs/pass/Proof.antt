@@ -1,20 +1,25 @@
 use borrow.Author.Needs.{needs}
 use denote.Ref.{now}
-use Rattle.walk.proofs.Laws.{pass-branch, pass-leaf}
+use Rattle.walk.proofs.Passes.{pass-branch, pass-leaf}
 use Rattle.walk.proofs.pass.Statement.{statement}
 use Rattle.walk.proofs.pass.Tie as tie
 
 returns : tie.Need-returns
 returns c =
-    let a = c .before .before .before .before .before .before .before .before .before .before .before .before .before .before .before .before .before .before .before .before .args in
+    let st = c .before .before .before .before .before .before .before .before .before .before .before .before .before .before .before .before .before .before .before .before in
+    let a = st .args in
     pass-branch (now (a .rules)) (now (a .nodes)) (now (a .edges)) (a .goal .0) (now (a .tokens)) (a .room) (a .s) (now (a .frames)) (now (a .list)) (now (a .work))
-    (c .before .before .before .before .before .before .before .before .before .before .before .word-of .ensures) (c .before .before .before .before .before .before .before .before .before .before .if1 .taken) (c .before .before .before .before .before .before .branch .ensures)
+    (c .before .before .before .before .before .before .before .before .before .before .before .word-of .ensures)
+    (c .before .before .before .before .before .before .before .before .before .before .if1 .taken)
+    (c .before .before .before .before .before .before .branch .ensures)
 
 returns-2 : tie.Need-returns-2
 returns-2 c =
-    let a = c .before .before .before .before .before .before .before .before .before .before .before .before .before .before .before .before .before .before .args in
+    let st = c .before .before .before .before .before .before .before .before .before .before .before .before .before .before .before .before .before .before in
+    let a = st .args in
     pass-leaf (now (a .rules)) (now (a .nodes)) (now (a .edges)) (a .goal .0) (now (a .tokens)) (a .room) (a .s) (now (a .frames)) (now (a .list)) (now (a .work))
-    (c .before .before .before .before .before .before .before .before .before .word-of .ensures) (c .before .before .before .before .before .before .before .before .if1 .left) (c .before .before .before .before .leaf .ensures)
+    (c .before .before .before .before .before .before .before .before .before .word-of .ensures)
+    (c .before .before .before .before .before .before .before .before .if1 .left) (c .before .before .before .before .leaf .ensures)
 
 pub pass-spec : {M : Type 1} → statement M
 pass-spec =

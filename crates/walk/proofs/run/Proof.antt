@@ -4,7 +4,7 @@ use native.Mathlib.Omega.{arith}
 use borrow.Author.Needs.{needs}
 use denote.Ref.{now}
 use lib.ListN.{length}
-use Rattle.walk.proofs.Laws.{Walking, ready-start, walking-start, walking-on, end-fits, walking-end, walking-stop, walking-out}
+use Rattle.walk.proofs.Passes.{Walking, ready-start, walking-start, walking-on, end-fits, walking-end, walking-stop, walking-out}
 use Rattle.walk.proofs.run.Statement.{statement}
 use Rattle.walk.proofs.run.Tie as tie
 
@@ -18,55 +18,73 @@ abbrev μ-loop : tie.MeasureT-loop
 
 loop-holds : tie.Need-loop-holds Inv-loop μ-loop
 loop-holds c =
-    let a = c .before .before .before .before .before .before .before .args in
-    let p = c .before .before .before .before .before .before .before .pre in (
+    let st = c .before .before .before .before .before .before .before .before in
+    let a = st .args in
+    let p = st .pre in (
       refl,
       refl,
-      walking-start (now (a .rules)) (now (a .nodes)) (now (a .edges)) (a .goal .0) (now (a .tokens)) (a .allowance) (a .room) (now (a .frames)) (now (a .list)) (now (a .work))
-          (ready-start (now (a .tokens)) (now (a .frames)) (now (a .list)) (now (a .work)) (p .0) (p .1) (p .2) (p .3)),
+      rw (c .start .ensures)
+          (walking-start (now (a .rules)) (now (a .nodes)) (now (a .edges)) (a .goal .0) (now (a .tokens)) (a .allowance) (a .room) (now (a .frames))
+          (now (a .list)) (now (a .work)) (ready-start (now (a .tokens)) (now (a .frames)) (now (a .list)) (now (a .work)) (p .0) (p .1) (p .2) (p .3))),
     )
 
 loop-again : tie.Need-loop-again Inv-loop μ-loop
 loop-again c =
-    let a = c .before .before .before .before .before .before .before .before .before .before .before .before .before .before .before .before .before .before .before .before .before .before .args in
+    let st = c .before .before .before .before .before .before .before .before .before .before .before .before .before .before .before .before .before .before .before .before .before .before .before in
+    let a = st .args in
     let l = c .before .before .before .before .before .before .before .before .before .before .before .before .before .before .loop in
     let w = c .before .before .before .before .before .before .before .before .before .pass in (
       w .kept .1 .1 .1 .1 .1 .1 .1 .1 .0 ∙ l .inv .0,
       w .kept .1 .1 .1 .1 .1 .1 .1 .1 .1 .0 ∙ l .inv .1,
       walking-on (now (a .rules)) (now (a .nodes)) (now (a .edges)) (a .goal .0) (now (a .tokens)) (a .allowance) (a .room) (now (a .frames)) (l .s) (l .n)
-          (l .frames) (l .list) (l .work) (l .inv .2) (c .before .before .before .before .before .before .before .before .before .before .before .before .before .loop-test .taken) (w .ensures) (c .before .turn .given .0 .0) (c .before .turn .given .1)
+          (l .frames) (l .list) (l .work) (l .inv .2)
+          (c .before .before .before .before .before .before .before .before .before .before .before .before .before .loop-test .taken) (w .ensures)
+          (c .before .turn .given .0 .0) (c .before .turn .given .1)
           (w .kept .1 .1 .1 .1 .1 .1 .1 .0),
     )
 
-cast : tie.Need-cast-t26 Inv-loop μ-loop
+cast : tie.Need-cast-t24 Inv-loop μ-loop
 cast c =
-    let a = c .before .before .before .before .before .before .before .before .before .before .before .before .before .before .before .before .before .before .before .before .before .before .args in
+    let st = c .before .before .before .before .before .before .before .before .before .before .before .before .before .before .before .before .before .before .before .before .before .before .before in
+    let a = st .args in
     let l = c .before .before .before .before .before .before .before .before .before .before .before .before .before .before .loop in
     let f = end-fits (now (a .rules)) (now (a .nodes)) (now (a .edges)) (a .goal .0) (now (a .tokens)) (a .allowance) (a .room) (now (a .frames)) (l .s) (l .n)
-    (l .frames) (l .list) (l .work) (l .inv .2) (c .before .before .before .before .before .before .before .before .before .before .before .before .before .loop-test .taken) (c .before .before .before .before .before .before .before .before .before .pass .ensures) (c .before .turn2 .given .0 .0) (c .before .turn2 .given .1) in
+    (l .frames) (l .list) (l .work) (l .inv .2)
+    (c .before .before .before .before .before .before .before .before .before .before .before .before .before .loop-test .taken)
+    (c .before .before .before .before .before .before .before .before .before .pass .ensures) (c .before .turn2 .given .0 .0) (c .before .turn2 .given .1) in
     omega (arith, f)
 
 returns : tie.Need-returns Inv-loop μ-loop
 returns c =
-    let a = c .before .before .before .before .before .before .before .before .before .before .before .before .before .before .before .before .before .before .before .before .before .before .args in
+    let st = c .before .before .before .before .before .before .before .before .before .before .before .before .before .before .before .before .before .before .before .before .before .before .before in
+    let a = st .args in
     let l = c .before .before .before .before .before .before .before .before .before .before .before .before .before .before .loop in
     walking-end (now (a .rules)) (now (a .nodes)) (now (a .edges)) (a .goal .0) (now (a .tokens)) (a .allowance) (a .room) (now (a .frames)) (l .s) (l .n)
-    (l .frames) (l .list) (l .work) (l .inv .2) (c .before .before .before .before .before .before .before .before .before .before .before .before .before .loop-test .taken) (c .before .before .before .before .before .before .before .before .before .pass .ensures) (c .before .turn2 .given .0 .0) (c .before .turn2 .given .1)
+    (l .frames) (l .list) (l .work) (l .inv .2)
+    (c .before .before .before .before .before .before .before .before .before .before .before .before .before .loop-test .taken)
+    (c .before .before .before .before .before .before .before .before .before .pass .ensures) (c .before .turn2 .given .0 .0) (c .before .turn2 .given .1)
 
 returns-2 : tie.Need-returns-2 Inv-loop μ-loop
 returns-2 c =
-    let a = c .before .before .before .before .before .before .before .before .before .before .before .before .before .before .before .before .before .before .before .before .before .before .before .before .args in
-    let l = c .before .before .before .before .before .before .before .before .before .before .before .before .before .before .before .before .loop in
-    walking-stop (now (a .rules)) (now (a .nodes)) (now (a .edges)) (a .goal .0) (now (a .tokens)) (a .allowance) (a .room) (now (a .frames)) (l .s) (l .n)
-    (l .frames) (l .list) (l .work) (l .inv .2) (c .before .before .before .before .before .before .before .before .before .before .before .before .before .before .before .loop-test .taken) (c .before .before .before .before .before .before .before .before .before .before .before .pass .ensures) (c .before .before .before .turn3 .given .0 .0) (c .before .before .before .turn3 .given .1)
-    (c .before .number .result) (c .place .result) (c .before .number .ensures) (c .place .ensures)
+    let st = c .before .before .before .before .before .before .before .before .before .before .before .before .before .before .before .before .before .before .before .before .before .before .before .before .before .before in
+    let a = st .args in
+    let l = c .before .before .before .before .before .before .before .before .before .before .before .before .before .before .before .before .before .loop in
+    rw (c .refused .ensures)
+    (walking-stop (now (a .rules)) (now (a .nodes)) (now (a .edges)) (a .goal .0) (now (a .tokens)) (a .allowance) (a .room) (now (a .frames)) (l .s) (l .n)
+    (l .frames) (l .list) (l .work) (l .inv .2)
+    (c .before .before .before .before .before .before .before .before .before .before .before .before .before .before .before .before .loop-test .taken)
+    (c .before .before .before .before .before .before .before .before .before .before .before .before .pass .ensures)
+    (c .before .before .before .before .turn3 .given .0 .0) (c .before .before .before .before .turn3 .given .1)
+    (c .before .before .number .result) (c .before .place .result) (c .before .before .number .ensures) (c .before .place .ensures))
 
 returns-3 : tie.Need-returns-3 Inv-loop μ-loop
 returns-3 c =
-    let a = c .before .before .before .before .before .before .before .before .before .args in
-    let l = c .before .loop in
-    walking-out (now (a .rules)) (now (a .nodes)) (now (a .edges)) (a .goal .0) (now (a .tokens)) (a .allowance) (a .room) (now (a .frames)) (l .s) (l .n)
-    (l .frames) (l .list) (l .work) (l .inv .2) (c .loop-test .left)
+    let st = c .before .before .before .before .before .before .before .before .before .before .before in
+    let a = st .args in
+    let l = c .before .before .loop in
+    rw (c .refused2 .ensures)
+    (walking-out (now (a .rules)) (now (a .nodes)) (now (a .edges)) (a .goal .0) (now (a .tokens)) (a .allowance) (a .room) (now (a .frames)) (l .s) (l .n)
+    (l .frames) (l .list) (l .work) (l .inv .2) (c .before .loop-test .left))
 
 pub run-spec : {M : Type 1} → statement M
 run-spec =
@@ -74,6 +92,7 @@ run-spec =
     (tie.spec
     Inv-loop
     μ-loop
+    (λ c κs. search needs)
     loop-holds
     (λ c κs. c .before .before .before .before .loop .inv .2 .ready)
     (λ c. search needs)
@@ -89,10 +108,12 @@ run-spec =
     (λ c. search needs)
     (λ c κs. search needs)
     (λ c κs. search needs)
+    (λ c κs. search needs)
     (λ c. search needs)
     (λ c. search needs)
     (λ c. search needs)
     returns-2
+    (λ c κs. search needs)
     (λ c. search needs)
     (λ c. search needs)
     (λ c. search needs)

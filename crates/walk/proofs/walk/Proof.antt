@@ -1,19 +1,20 @@
 use mathlib.Core.Path.{_∙_, ap}
-use Prim.Native.Nat.{ℕ, _≤_}
+use Prim.Native.Nat.{ℕ}
 use native.Mathlib.Omega.{arith}
 use borrow.Author.Needs.{needs}
 use denote.Ref.{now}
 use lib.ListN.{length}
 use Rattle.formula.specs.Code.{mostRoom}
-use Rattle.walk.specs.Code.{lesser}
-use Rattle.walk.proofs.Laws.{tables-fit, room-lent, walk-answers}
+use Rattle.words.specs.Outcome.{lesser}
+use Rattle.walk.proofs.Passes.{tables-fit, room-lent, walk-answers}
 use Rattle.walk.proofs.walk.Statement.{statement}
 use Rattle.walk.proofs.walk.Tie as tie
 
 run-requires : tie.Need-run-requires
 run-requires c κs =
-    let a = c .before .before .before .before .before .before .before .before .before .before .before .before .before .before .args in
-    let p = c .before .before .before .before .before .before .before .before .before .before .before .before .before .before .pre in (
+    let st = c .before .before .before .before .before .before .before .before .before .before .before .before .before .before in
+    let a = st .args in
+    let p = st .pre in (
       tables-fit (a .codes .provable .0) (a .codes .logic .0) (now (a .rules)) (now (a .nodes)) (now (a .edges)) (p .0) (p .1),
       omega (arith, p .2),
       p .3,
@@ -23,11 +24,16 @@ run-requires c κs =
 
 returns : tie.Need-returns
 returns c =
-    let a = c .before .before .before .before .before .before .before .before .before .before .before .before .before .before .before .before .before .before .before .before .before .args in
-    let p = c .before .before .before .before .before .before .before .before .before .before .before .before .before .before .before .before .before .before .before .before .before .pre in
+    let st = c .before .before .before .before .before .before .before .before .before .before .before .before .before .before .before .before .before .before .before .before .before in
+    let a = st .args in
+    let p = st .pre in
     walk-answers (now (a .rules)) (now (a .nodes)) (now (a .edges)) (a .codes .provable .0) (a .codes .logic .0) (a .allowance) (now (a .tokens)) (now (a .frames))
-    (p .1) (p .2) (p .3) (lesser (length (now (a .list))) (length (now (a .work)))) (c .before .before .before .before .before .before .before .before .before .before .lesser2 .result) (c .before .before .before .before .before .before .before .before .before .before .before .before .goal-of .result .0)
-    (c .before .before .before .before .before .before .before .before .before .before .lesser2 .ensures ∙ ap (λ (n : ℕ). lesser n mostRoom) (c .before .before .before .before .before .before .before .before .before .before .before .lesser .ensures)) (c .before .before .before .before .before .before .before .before .before .before .before .before .goal-of .ensures) (c .before .before .before .before .before .before .run .ensures)
+    (p .1) (p .2) (p .3) (lesser (length (now (a .list))) (length (now (a .work))))
+    (c .before .before .before .before .before .before .before .before .before .before .lesser2 .result)
+    (c .before .before .before .before .before .before .before .before .before .before .before .before .goal-of .result .0)
+    (c .before .before .before .before .before .before .before .before .before .before .lesser2 .ensures ∙ ap (λ (n : ℕ). lesser n mostRoom) (c .before .before .before .before .before .before .before .before .before .before .before .lesser .ensures))
+    (c .before .before .before .before .before .before .before .before .before .before .before .before .goal-of .ensures)
+    (c .before .before .before .before .before .before .run .ensures)
 
 pub walk-spec : {M : Type 1} → statement M
 walk-spec =

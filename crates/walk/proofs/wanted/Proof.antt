@@ -6,19 +6,22 @@ use Rattle.walk.proofs.wanted.Tie as tie
 
 returns : tie.Need-returns
 returns c =
-    let a = c .before .before .before .before .before .args in
+    let st = c .before .before .before .before .before in
+    let a = st .args in
     wants-goal (now (a .edges)) (a .goal .0) (now (a .frames)) (a .n) (a .t .0) (c .before .before .if1 .taken)
 
 returns-2 : tie.Need-returns-2
 returns-2 c =
-    let a = c .before .before .before .before .before .before .before .args in
+    let st = c .before .before .before .before .before .before .before in
+    let a = st .args in
     let l = c .before .before .look-up in
     wants-row (now (a .edges)) (a .goal .0) (now (a .frames)) (a .n) (a .t .0) (c .before .before .before .before .if1 .left) (l .ensures)
     (c .enum-told .given .0 .0) (c .enum-told .given .1)
 
 returns-3 : tie.Need-returns-3
 returns-3 c =
-    let a = c .before .before .before .before .before .before .before .args in
+    let st = c .before .before .before .before .before .before .before in
+    let a = st .args in
     let l = c .before .before .look-up in
     wants-nothing (now (a .edges)) (a .goal .0) (now (a .frames)) (a .n) (a .t .0) (c .before .before .before .before .if1 .left) (l .ensures)
     (c .enum-told2 .given .1)

@@ -2,10 +2,11 @@
 use mathlib.Core.Path.{_≡_, refl, sym, _∙_}
 use mathlib.Core.Bool.{Bool, true, false, false≢true, not, _&&_, and-eq-true-iff}
 use mathlib.Core.List.{List, [], _∷_}
-use Prim.Native.Nat.{ℕ, zero, suc}
+use Prim.Native.Nat.{ℕ, _≤_}
+use native.Mathlib.Omega.{arith}
 use lib.Dec.{eqb, ltb, leb}
-use borrow.Author.Tests.{lt-ltb, le-ltb, le-leb, lt-leb, eq-eqb, ne-eqb, eqb-true, not-true, not-false}
-use Rattle.words.specs.Outcome.{pick, sameWords}
+use borrow.Author.Tests.{lt-ltb, le-ltb, le-leb, lt-leb, eq-eqb, ne-eqb, eqb-true, leb-true, leb-false, not-true, not-false}
+use Rattle.words.specs.Outcome.{pick, lesser, sameWords}
 
 -- a test's value from the fact that a branch left
 pub ruleset tests = (lt-ltb, le-ltb, le-leb, lt-leb, eq-eqb, ne-eqb)
@@ -48,3 +49,10 @@ sameWords-true (x ∷ xs) [] e = absurd (false≢true e)
 sameWords-true (x ∷ xs) (y ∷ ys) e =
     let h = and-eq-true-iff (eqb x y) (sameWords xs ys) .0 e in
     cc (eqb-true x y (h .0), sameWords-true xs ys (h .1))
+
+-- the lesser of two is no more than either, and what is no more than both is no more than it
+pub lesser-le : (a b : ℕ) → (lesser a b ≤ a) × (lesser a b ≤ b)
+lesser-le a b = by-test (λ n. (n ≤ a) × (n ≤ b)) (leb a b) (λ h. (omega arith, leb-true a b h)) λ h. (omega (arith, leb-false a b h), omega arith)
+
+pub lesser-is : (a b n : ℕ) → n ≤ a → n ≤ b → n ≤ lesser a b
+lesser-is a b n h k = by-test (λ x. n ≤ x) (leb a b) (λ _. h) λ _. k

@@ -1,0 +1,350 @@
+-- The parts of a pass: each answer of the code is what the definition says.
+use mathlib.Core.Path.{_≡_, refl, subst}
+use mathlib.Core.Bool.{Bool, true, false, not}
+use mathlib.Core.List.{List, [], _∷_}
+use mathlib.Core.Option.{Option, some, none}
+use Prim.Native.Nat.{ℕ, zero, suc, pred, _+_, _-_, _/_, _≤_, _<_}
+use native.Mathlib.Nat.{sub-zero}
+use native.Mathlib.Numerals.{add-one}
+use native.Mathlib.Omega.{arith}
+use lib.ListN.{length, getD, set, take, drop, drop-of-length-le, length-set}
+use borrow.Author.Tests.{eq-eqb, ne-eqb, lt-ltb, le-ltb}
+use lib.Seq.{drop-cons}
+use Rattle.words.specs.Outcome.{Res, ok, no, bind, when}
+use Rattle.words.specs.Limits.{rowWidth, mostReduces}
+use Rattle.words.specs.Numbers.{Why, misfit, noEntry}
+use Rattle.rules.specs.Rules.{theRules, ruleOf}
+use Rattle.words.specs.laws.Parts.{part-all}
+use Rattle.words.specs.laws.Tests.{failed, passed}
+use Rattle.words.specs.declared.RuleNo.{RuleNo}
+use Rattle.rules.specs.Code as rules
+use Rattle.rules.specs.Code.{Starts, Missing}
+use Rattle.rules.specs.declared.Start.{Start}
+use Rattle.rules.specs.declared.Start.the-variants as start
+use Rattle.rows.specs.Rows.{Edge, edgeOf, edgesOf, bare}
+use Rattle.rows.specs.Code.{looksUp, edgeIs, Holds, rowAt}
+use Rattle.rows.specs.declared.Edge as edge
+use Rattle.rows.specs.laws.Lookup.{row-found, none-found}
+use Rattle.rows.specs.declared.Found.{Found}
+use Rattle.rows.specs.declared.Found.the-variants.{Row}
+use Rattle.rows.specs.declared.Found.the-variants as found
+use Rattle.formula.specs.Check.{check}
+use Rattle.formula.specs.Reducing.{Trees, flat, reduce, reduceAll}
+use Rattle.formula.specs.Code as formula
+use Rattle.formula.specs.laws.Held.{trees-count}
+use Rattle.formula.specs.declared.Trees as held
+use Rattle.formula.specs.declared.Reduced.{Reduced}
+use Rattle.formula.specs.declared.Reduced.the-variants.{Done, TooFew, Full}
+use Rattle.walk.specs.Walk.{Tables, tablesOf, Room, State, wanted, conversion, follow, rootBy, rootStep, finish, convertBy, unwanted, popBy, goalBy, complete, leaf, token, branch, pass, Turn, after, start, walk}
+use Rattle.walk.specs.Code.{tables, roomOf, stack, stateOf, Chooses, Placed, Fit, Follows, Roots, Opens, Branches, Lies, Finishes, Closes, Unwanted, Completes, Leaves}
+use Rattle.walk.specs.declared.At.{At}
+use Rattle.walk.specs.declared.Why.the-variants.{Unparseable, TooShort, Misfit, NoFrame, NoEntry}
+use Rattle.walk.specs.declared.Turn as declared
+use Rattle.walk.specs.declared.Turn.the-variants.{On, End, Stop}
+use Rattle.walk.specs.declared.Chosen.{Chosen}
+use Rattle.walk.specs.declared.Chosen.the-variants.{By, Nothing}
+use Rattle.walk.proofs.Laws.{stack-length, stack-none, stack-pop, stack-push}
+
+-- ---- an edge that is followed
+
+module _ (rs : List ℕ) (room : ℕ) {h : edge.Edge} {e : Edge} (d : Holds h e) (s : At) (ls ws : List ℕ) {r : Reduced} {ls′ ws′ : List ℕ}
+    (g : formula.Gives room r ls′ ws′ (reduceAll (theRules rs) room (edgeIs h .reduces) (formula.treesOf (s .trees) ls ws))) where
+  abbrev all : Res Why Trees
+  all = reduceAll (theRules rs) room (edgeIs h .reduces) (formula.treesOf (s .trees) ls ws)
+
+  abbrev To : Edge → declared.Turn → Type 0
+  To x q = Follows rs room x s ls ws q ls′ ws′
+
+  pub follow-on : (us : held.Trees) → r ≡ Done us → To e (On (record { node = h .to; frames = s .frames; trees = us; token = s .token; last = s .last }))
+  unfolding follow tablesOf bind
+  follow-on us q =
+      let o : ok (formula.treesOf us ls′ ws′) ≡ all = rw q at (g .outcome) in
+      subst (λ (x : Edge). To x (On (record { node = h .to; frames = s .frames; trees = us; token = s .token; last = s .last }))) (d .says) λ ns es st ts fs goal p.
+      record { turned = rw (← o); whole = (record { begun = p .begun; token = p .token; frames = p .frames }, rw q at (g .inside)) }
+
+  pub follow-few : r ≡ TooFew → To e (Stop Misfit)
+  unfolding follow tablesOf bind
+  follow-few q =
+      let o : no misfit ≡ all = rw q at (g .outcome) in
+      subst (λ (x : Edge). To x (Stop Misfit)) (d .says) λ ns es st ts fs goal p. record { turned = rw (← o); whole = tt }
+
+  pub follow-full : r ≡ Full → To e (Stop NoEntry)
+  unfolding follow tablesOf bind
+  follow-full q =
+      let o : no noEntry ≡ all = rw q at (g .outcome) in
+      subst (λ (x : Edge). To x (Stop NoEntry)) (d .says) λ ns es st ts fs goal p. record { turned = rw (← o); whole = tt }
+
+-- ---- the root step
+
+module _ (rs es : List ℕ) (room t : ℕ) (s : At) (ls ws : List ℕ) {f : Found} (l : f ≡ looksUp es 0 1 t) where
+  pub root-none : f ≡ found.Nothing → Roots rs es room t s ls ws (Stop (Unparseable (s .last))) ls ws
+  unfolding rootStep rootBy tablesOf
+  root-none e ns st ts fs goal p = record { turned = rw (none-found es 0 1 t l e); whole = tt }
+
+  pub root-row : (row : ℕ) → f ≡ Row row → {r : declared.Turn} {ls′ ws′ : List ℕ} → Follows rs room (edgeOf (rowAt es row)) s ls ws r ls′ ws′
+      → Roots rs es room t s ls ws r ls′ ws′
+  unfolding rootStep rootBy tablesOf
+  root-row row e g ns st ts fs goal p = rw (row-found es 0 1 t l row e .finds) (g ns es st ts fs goal p)
+
+-- what is asked of the row that a look-up finds
+pub slim-row : {rs es : List ℕ} → Fit rs es → (n k t : ℕ) {f : Found} → f ≡ looksUp es n k t → (row : ℕ) → f ≡ Row row
+    → (row < length es / rowWidth) × (length (edgeOf (rowAt es row) .reduces) ≤ mostReduces)
+slim-row {rs} {es} h n k t l row e = let w = row-found es n k t l row e in (w .within, h .slim n k t (edgeOf (rowAt es row)) (w .finds))
+
+-- ---- a node that becomes a frame
+
+module _ (es : List ℕ) (s : At) (fs : List ℕ) where
+  pub open-root : s .node .0 ≡ 0 → Opens es s fs (Stop (Unparseable (s .token))) fs
+  unfolding token tablesOf bind when
+  open-root e R ns st ts ls ws goal room x xs d p h = record { turned = rw (eq-eqb (s .node .0) 0 e); whole = tt }
+
+  module _ (z : s .node .0 ≡ 0 → ⊥) {b : Bool} (l : b ≡ not (bare (edgesOf es) (s .node .0))) where
+    pub open-bare : not b ≡ true → Opens es s fs (Stop (Unparseable (s .token))) fs
+    unfolding token tablesOf bind when
+    open-bare e R ns st ts ls ws goal room x xs d p h =
+        let q : not (bare (edgesOf es) (s .node .0)) ≡ false = failed l e in
+        record { turned = rw (ne-eqb (s .node .0) 0 z, q); whole = tt }
+
+    module _ (e : not b ≡ false) where
+      pub open-full : length fs ≤ s .frames → Opens es s fs (Stop NoFrame) fs
+      unfolding token tablesOf bind when
+      open-full f R ns st ts ls ws goal room x xs d p h =
+          let q : not (bare (edgesOf es) (s .node .0)) ≡ true = passed l e in
+          record { turned = rw (ne-eqb (s .node .0) 0 z, q, stack-length (s .frames) fs, le-ltb (s .frames) (length fs) f); whole = tt }
+
+      pub open-on : s .frames < length fs → Opens es s fs
+          (On (record { node = record { 0 = 0 }; frames = s .frames + 1; trees = s .trees; token = s .token; last = s .token }))
+          (set fs (s .frames) (s .node .0))
+      unfolding token tablesOf bind when
+      open-on f R ns st ts ls ws goal room x xs d p h =
+          let q : not (bare (edgesOf es) (s .node .0)) ≡ true = passed l e in
+          record {
+            turned = rw (
+              ne-eqb (s .node .0) 0 z,
+              q,
+              stack-length (s .frames) fs,
+              lt-ltb (s .frames) (length fs) f,
+              stack-push (s .frames) fs (s .node .0) f,
+              d,
+            );
+            whole = (record { begun = p .begun; token = p .token; frames = simp length-set (omega arith) }, h);
+          }
+
+-- ---- a pass at a branch
+
+pred-one : (n : ℕ) → pred n ≡ n - 1
+pred-one zero = refl
+pred-one (suc n) = omega arith
+
+module _ (rs es ts : List ℕ) (room : ℕ) (s : At) (fs ls ws : List ℕ) where
+  pub branch-ended : length ts ≤ s .token → Branches rs es ts room s fs ls ws (Stop (TooShort (s .token - 1))) fs ls ws
+  unfolding branch
+  branch-ended h ns st goal = record { turned = rw (drop-of-length-le ts {i = s .token} h, pred-one (s .token)); whole = tt }
+
+  -- at a token
+  module _ (p : Placed s ts fs) (i : formula.Inside room (s .trees) ls ws) (h : s .token < length ts) {f : Found}
+      (l : f ≡ looksUp es (s .node .0) 0 (getD ts (s .token) 0)) where
+    pub branch-open : f ≡ found.Nothing → {r : declared.Turn} {fs′ : List ℕ} → Opens es s fs r fs′ → Branches rs es ts room s fs ls ws r fs′ ls ws
+    unfolding branch tablesOf
+    branch-open e g ns st goal =
+        let d = drop-cons ts (s .token) 0 h in
+        rw (d, none-found es (s .node .0) 0 (getD ts (s .token) 0) l e) (rw d at (g (theRules rs) ns st ts ls ws goal room _ _ d p i))
+
+    pub branch-taken : (row : ℕ) → f ≡ Row row → {r : declared.Turn} {ls′ ws′ : List ℕ}
+        → Follows rs room (edgeOf (rowAt es row))
+        (record { node = s .node; frames = s .frames; trees = s .trees; token = s .token + 1; last = s .token }) ls ws r ls′ ws′
+        → Branches rs es ts room s fs ls ws r fs ls′ ws′
+    unfolding branch token follow tablesOf
+    branch-taken row e g ns st goal =
+        let q = g ns es st ts fs goal (record { begun = omega arith; token = omega arith; frames = p .frames }) in
+        rw (drop-cons ts (s .token) 0 h, row-found es (s .node .0) 0 (getD ts (s .token) 0) l row e .finds) (rw (add-one (s .token)) at q)
+
+-- ---- the end of a walk
+
+module _ (rs : List ℕ) (goal : ℕ) (ts : List ℕ) (us : held.Trees) (ls ws : List ℕ) (i : Lies us ls ws) where
+  one-tree : length (formula.treesOf us ls ws) ≡ us .count
+  one-tree = trees-count (i .0) us ls ws (i .1)
+
+  pub finish-few : (us .count ≡ 1 → ⊥) → Finishes rs goal ts us ls ws (Stop Misfit) ws
+  unfolding finish bind when
+  finish-few z ns es fs room = record { turned = rw (one-tree, ne-eqb (us .count) 1 z); whole = tt }
+
+  -- the check, of the list in the slice and the tokens after the typecode
+  module _ (one : us .count ≡ 1) {b : Bool} (c : b ≡ check (theRules rs) goal (take (length ts - 1) (drop 1 ts)) (take (us .len - 0) (drop 0 ls))) (ws′ : List ℕ) where
+    checked : b ≡ check (theRules rs) goal (drop 1 ts) (flat (formula.treesOf us ls ws))
+    checked = rw (i .1 .list) (rw (part-all ts 1, sub-zero (us .len)) at c)
+
+    pub finish-fails : not b ≡ true → Finishes rs goal ts us ls ws (Stop Misfit) ws′
+    unfolding finish bind when tablesOf
+    finish-fails e ns es fs room = record { turned = rw (one-tree, eq-eqb (us .count) 1 one, failed checked e); whole = tt }
+
+    pub finish-ends : not b ≡ false → Finishes rs goal ts us ls ws (End (us .len)) ws′
+    unfolding finish bind when tablesOf
+    finish-ends e ns es fs room = record {
+      turned = rw (one-tree, eq-eqb (us .count) 1 one, passed checked e, i .1 .list);
+      whole = (omega (arith, i .1 .fits, i .1 .lent), omega (arith, i .1 .fits, i .1 .words));
+    }
+
+-- trees that a reduce leaves are in order
+pub done-inside : (room : ℕ) {r : Reduced} {ls ws : List ℕ} {o : Res Why Trees} → formula.Gives room r ls ws o → (us : held.Trees) → r ≡ Done us
+    → formula.Inside room us ls ws
+done-inside room g us e = rw e at (g .inside)
+
+module _ (rs : List ℕ) (goal : ℕ) (ts : List ℕ) (c room : ℕ) (us : held.Trees) (ls ws : List ℕ) {r : Reduced} {ls′ ws′ : List ℕ}
+    (g : formula.Gives room r ls′ ws′ (reduce (theRules rs) room c 0 (formula.treesOf us ls ws))) where
+  pub close-done : (vs : held.Trees) → r ≡ Done vs → {q : declared.Turn} {ws″ : List ℕ} → Finishes rs goal ts vs ls′ ws′ q ws″
+      → Closes rs goal ts c room us ls ws q ls′ ws″
+  unfolding bind
+  close-done vs e f ns es fs =
+      let o : ok (formula.treesOf vs ls′ ws′) ≡ reduce (theRules rs) room c 0 (formula.treesOf us ls ws) = rw e at (g .outcome) in
+      rw (← o) (f ns es fs room)
+
+  pub close-few : r ≡ TooFew → Closes rs goal ts c room us ls ws (Stop Misfit) ls′ ws′
+  unfolding bind
+  close-few e ns es fs =
+      let o : no misfit ≡ reduce (theRules rs) room c 0 (formula.treesOf us ls ws) = rw e at (g .outcome) in
+      record { turned = rw (← o); whole = tt }
+
+  pub close-full : r ≡ Full → Closes rs goal ts c room us ls ws (Stop NoEntry) ls′ ws′
+  unfolding bind
+  close-full e ns es fs =
+      let o : no noEntry ≡ reduce (theRules rs) room c 0 (formula.treesOf us ls ws) = rw e at (g .outcome) in
+      record { turned = rw (← o); whole = tt }
+
+-- ---- a tree that is complete and not wanted
+
+module _ (rs es : List ℕ) (goal : ℕ) (ts : List ℕ) (room : ℕ) (s : At) (fs ls ws : List ℕ) {r : declared.Turn} {ls′ ws′ : List ℕ} (t : ℕ) (p : Placed s ts fs) where
+  pub unwanted-token : s .token < length ts → Roots rs es room t s ls ws r ls′ ws′ → Unwanted rs es goal ts room s fs ls ws r ls′ ws′ t
+  unfolding unwanted
+  unwanted-token h g ns = rw (drop-cons ts (s .token) 0 h) (rw (drop-cons ts (s .token) 0 h) at (g ns (drop 1 ts) ts fs goal p))
+
+  module _ (h : length ts ≤ s .token) {q : Chosen} (l : Chooses es goal (stack (s .frames) fs) (theRules rs) t q) where
+    pub unwanted-none : q ≡ Nothing → Roots rs es room t s ls ws r ls′ ws′ → Unwanted rs es goal ts room s fs ls ws r ls′ ws′ t
+    unfolding unwanted convertBy tablesOf
+    unwanted-none e g ns =
+        let d = drop-of-length-le ts {i = s .token} h in
+        let o : none ≡ conversion (tables rs ns es) goal (drop 1 ts) (theRules rs) 1 (stack (s .frames) fs) t = rw e at (l (theRules rs) ns (drop 1 ts)) in
+        rw (d, ← o) (rw d at (g ns (drop 1 ts) ts fs goal p))
+
+    pub unwanted-by : (c : RuleNo) → q ≡ By c → Closes rs goal ts (c .0) room (s .trees) ls ws r ls′ ws′ → Unwanted rs es goal ts room s fs ls ws r ls′ ws′ t
+    unfolding unwanted convertBy tablesOf
+    unwanted-by c e g ns =
+        let d = drop-of-length-le ts {i = s .token} h in
+        let o : some (c .0) ≡ conversion (tables rs ns es) goal (drop 1 ts) (theRules rs) 1 (stack (s .frames) fs) t = rw e at (l (theRules rs) ns (drop 1 ts)) in
+        rw (d, ← o) (g ns es fs)
+
+-- ---- a tree that is complete
+
+module _ (rs es : List ℕ) (goal : ℕ) (ts : List ℕ) (room : ℕ) (s : At) (fs ls ws : List ℕ) {r : declared.Turn} {ls′ ws′ : List ℕ} (t : ℕ) (p : Placed s ts fs) where
+  -- with a frame
+  module _ (z : s .frames ≡ 0 → ⊥) {f : Found} (l : f ≡ looksUp es (getD fs (s .frames - 1) 0) 1 t) where
+    pub pop-none : f ≡ found.Nothing → Unwanted rs es goal ts room s fs ls ws r ls′ ws′ t → Completes rs es goal ts room s fs ls ws r ls′ ws′ t
+    unfolding complete popBy tablesOf
+    pop-none e g ns =
+        let d = stack-pop (s .frames) fs z in
+        rw (d, none-found es (getD fs (s .frames - 1) 0) 1 t l e) (rw d at (g ns))
+
+    pub pop-row : (row : ℕ) → f ≡ Row row
+        → Follows rs room (edgeOf (rowAt es row))
+        (record { node = s .node; frames = s .frames - 1; trees = s .trees; token = s .token; last = s .last }) ls ws r ls′ ws′
+        → Completes rs es goal ts room s fs ls ws r ls′ ws′ t
+    unfolding complete popBy follow tablesOf
+    pop-row row e g ns =
+        let q = g ns es (drop 1 ts) ts fs goal (record { begun = p .begun; token = p .token; frames = omega (arith, p .frames) }) in
+        rw (stack-pop (s .frames) fs z, row-found es (getD fs (s .frames - 1) 0) 1 t l row e .finds) q
+
+  -- without
+  module _ (z : s .frames ≡ 0) where
+    pub bottom-other : (t ≡ goal → ⊥) → Unwanted rs es goal ts room s fs ls ws r ls′ ws′ t → Completes rs es goal ts room s fs ls ws r ls′ ws′ t
+    unfolding complete goalBy
+    bottom-other h g ns = let d = stack-none (s .frames) fs z in rw (d, ne-eqb t goal h) (rw d at (g ns))
+
+    pub bottom-token : t ≡ goal → s .token < length ts → Roots rs es room t s ls ws r ls′ ws′ → Completes rs es goal ts room s fs ls ws r ls′ ws′ t
+    unfolding complete goalBy
+    bottom-token e h g ns =
+        let d = stack-none (s .frames) fs z in
+        let q = drop-cons ts (s .token) 0 h in
+        rw (d, eq-eqb t goal e, q) (rw (d, q) at (g ns (drop 1 ts) ts fs goal p))
+
+-- the goal, and no token left
+pub bottom-ends : (rs es : List ℕ) (goal : ℕ) (ts : List ℕ) (room : ℕ) (s : At) (fs ls ws : List ℕ) {r : declared.Turn} {ws′ : List ℕ} (t : ℕ)
+    → s .frames ≡ 0 → t ≡ goal → length ts ≤ s .token → Finishes rs goal ts (s .trees) ls ws r ws′ → Completes rs es goal ts room s fs ls ws r ls ws′ t
+unfolding complete goalBy
+bottom-ends rs es goal ts room s fs ls ws t z e h g ns =
+    rw (stack-none (s .frames) fs z, eq-eqb t goal e, drop-of-length-le ts {i = s .token} h) (g ns es fs room)
+
+-- ---- a pass at a leaf
+
+-- what a complete tree comes to does not ask which trees there were before
+module _ (T : Tables) (goal : ℕ) (st : List ℕ) (m : Room) (s : State) (us : Trees) where
+  abbrev other : State
+  other = record { node = s .node; frames = s .frames; trees = us; rest = s .rest; at = s .at; last = s .last }
+
+  rootBy-other : (vs : Trees) (o : Option Edge) → rootBy T goal st m s vs o ≡ rootBy T goal st m other vs o
+  unfolding rootBy follow
+  rootBy-other vs none = refl
+  rootBy-other vs (some e) = refl
+
+  convertBy-other : (t : ℕ) (vs : Trees) (o : Option ℕ) → convertBy T goal st m s t vs o ≡ convertBy T goal st m other t vs o
+  unfolding convertBy rootStep
+  convertBy-other t vs none = rootBy-other vs _
+  convertBy-other t vs (some c) = refl
+
+  unwanted-other : (t : ℕ) (vs : Trees) (xs : List ℕ) → unwanted T goal st m s t vs xs ≡ unwanted T goal st m other t vs xs
+  unfolding unwanted rootStep
+  unwanted-other t vs [] = convertBy-other t vs _
+  unwanted-other t vs (x ∷ xs) = rootBy-other vs _
+
+  popBy-other : (t : ℕ) (vs : Trees) (fs : List ℕ) (o : Option Edge) → popBy T goal st m s t vs fs o ≡ popBy T goal st m other t vs fs o
+  unfolding popBy follow
+  popBy-other t vs fs none = unwanted-other t vs _
+  popBy-other t vs fs (some e) = refl
+
+  goalBy-other : (t : ℕ) (vs : Trees) (xs : List ℕ) (b : Bool) → goalBy T goal st m s t vs xs b ≡ goalBy T goal st m other t vs xs b
+  unfolding goalBy rootStep
+  goalBy-other t vs xs false = unwanted-other t vs xs
+  goalBy-other t vs [] true = refl
+  goalBy-other t vs (x ∷ xs) true = rootBy-other vs _
+
+  complete-other : (t : ℕ) (fs : List ℕ) (vs : Trees) → complete T goal st m s t fs vs ≡ complete T goal st m other t fs vs
+  unfolding complete
+  complete-other t [] vs = goalBy-other t vs _ _
+  complete-other t (f ∷ fs) vs = popBy-other t vs fs _
+
+-- where a rule starts, or that there is none
+pub starts-at : (ws : List ℕ) (n : ℕ) {r : Start} → rules.Found ws n r → (i : ℕ) → r ≡ start.At i → Starts ws n i
+starts-at ws n f i e = rw e at f
+
+pub is-missing : (ws : List ℕ) (n : ℕ) {r : Start} → rules.Found ws n r → r ≡ start.Nothing → Missing ws n
+is-missing ws n f e = rw e at f
+
+-- the state with the trees that a reduce left
+abbrev pub regrown : At → held.Trees → At
+regrown s us = record { node = s .node; frames = s .frames; trees = us; token = s .token; last = s .last }
+
+module _ (rs es : List ℕ) (goal : ℕ) (ts : List ℕ) (room : ℕ) (s : At) (fs ls ws : List ℕ) (c : ℕ) where
+  pub leaf-missing : Missing rs c → Leaves rs es goal ts room s fs ls ws (Stop Misfit) ls ws c
+  unfolding leaf
+  leaf-missing h ns = record { turned = rw (h .unnamed); whole = tt }
+
+  module _ (i : ℕ) (q : Starts rs c i) {r : Reduced} {ls′ ws′ : List ℕ}
+      (g : formula.Gives room r ls′ ws′ (reduce (theRules rs) room c 0 (formula.treesOf (s .trees) ls ws))) where
+    pub leaf-done : (us : held.Trees) → r ≡ Done us → {w : declared.Turn} {ls″ ws″ : List ℕ} {t : ℕ} → t ≡ ruleOf (take (length rs - i) (drop i rs)) .result
+        → Completes rs es goal ts room (regrown s us) fs ls′ ws′ w ls″ ws″ t → Leaves rs es goal ts room s fs ls ws w ls″ ws″ c
+    unfolding leaf bind tablesOf
+    leaf-done us e d h ns =
+        let o : ok (formula.treesOf us ls′ ws′) ≡ reduce (theRules rs) room c 0 (formula.treesOf (s .trees) ls ws) = rw e at (g .outcome) in
+        let k = complete-other (tables rs ns es) goal (drop 1 ts) (roomOf room fs) (stateOf s ts fs ls ws) (formula.treesOf us ls′ ws′) (ruleOf (drop i rs) .result) (stack (s .frames) fs) (formula.treesOf us ls′ ws′) in
+        rw (q .named, ← o, k, ← (rw (part-all rs i) at d)) (h ns)
+
+    pub leaf-few : r ≡ TooFew → Leaves rs es goal ts room s fs ls ws (Stop Misfit) ls′ ws′ c
+    unfolding leaf bind tablesOf
+    leaf-few e ns =
+        let o : no misfit ≡ reduce (theRules rs) room c 0 (formula.treesOf (s .trees) ls ws) = rw e at (g .outcome) in
+        record { turned = rw (q .named, ← o); whole = tt }
+
+    pub leaf-full : r ≡ Full → Leaves rs es goal ts room s fs ls ws (Stop NoEntry) ls′ ws′ c
+    unfolding leaf bind tablesOf
+    leaf-full e ns =
+        let o : no noEntry ≡ reduce (theRules rs) room c 0 (formula.treesOf (s .trees) ls ws) = rw e at (g .outcome) in
+        record { turned = rw (q .named, ← o); whole = tt }
