@@ -20,7 +20,8 @@ use Rattle.rows.specs.Code.{reduceIs, edgeIs, Holds, Adds, rowAt, number
 use Rattle.rows.specs.declared.Reduce as coded
 use Rattle.rows.specs.declared.Edge as held
 use Rattle.rows.specs.declared.Found.the-variants.{Row, Nothing}
-use Rattle.rows.specs.laws.Words.{row-length}
+use Rattle.rows.specs.laws.Words.{row-length, last-word}
+use Rattle.rows.specs.laws.Fair.{reduces-length}
 use Rattle.rows.specs.laws.Lookup.{rowsLeft, rows-step, rows-end}
 
 -- ---- rows, from row r on
@@ -189,11 +190,6 @@ pairs-read row (suc n) at (r ∷ rs) l h =
     let z : at + 0 ≡ at = omega arith in
     rw (h .0, pairs-read row n (at + 2) rs (le-of-suc-le-suc l) (h .1), getD-drop at row 0 0, getD-drop at row 1 0, drop-drop 2 at row, z)
 
-reduces-length : (n : ℕ) (ws : List ℕ) → length (reducesOf n ws) ≡ n
-unfolding reducesOf
-reduces-length zero ws = refl
-reduces-length (suc n) ws = ap suc (reduces-length n (drop 2 ws))
-
 pub row-read : (row : List ℕ) (rs : List coded.Reduce) → length rs ≡ 5 → length (edgeOf row .reduces) ≤ 5 → Pairs row 5 rs
     → Holds (record {
       from = record { 0 = getD row 0 0 };
@@ -230,13 +226,6 @@ pair-words (suc n) (suc k) [] h =
 pair-words (suc n) (suc k) (d ∷ ds) h =
     let two : 2 * suc k ≡ suc (suc (2 * k)) = omega arith in
     rw two (pair-words n k ds (le-of-suc-le-suc h))
-
--- the zero after them
-last-word : (n : ℕ) (ds : List Reduce) → getD (reduceWords n ds) (2 * n) 0 ≡ 0
-unfolding reduceWords
-last-word zero ds = refl
-last-word (suc n) [] = let two : 2 * suc n ≡ suc (suc (2 * n)) = omega arith in rw two (last-word n [])
-last-word (suc n) (d ∷ ds) = let two : 2 * suc n ≡ suc (suc (2 * n)) = omega arith in rw two (last-word n ds)
 
 module _ (e : Edge) (k : ℕ) (h : k < 5) where
   pub rule-word : getD (rowWords e) (5 + 2 * k) 0 ≡ getD (e .reduces) k (reduceIs noReduce) .rule

@@ -47,7 +47,7 @@ fn reduce_at(row: &[u32], at: usize) -> Reduce
 }
 
 // The edge that a row says.
-pub fn read_edge(row: &[u32]) -> Edge
+fn read_edge(row: &[u32]) -> Edge
     requires { ⌜ (length (now row) ≡ rowWidth) × (length (edgeOf (now row) .reduces) ≤ mostReduces) ⌝ }
     ensures { λ r. ⌜ Holds r (edgeOf (now (row .entry))) ⌝ }
 {
@@ -93,7 +93,7 @@ pub fn reduce_of(e: Edge, k: usize) -> Reduce
 }
 
 // The words of an edge, in a row.
-pub fn write_row(row: &mut [u32], e: Edge)
+fn write_row(row: &mut [u32], e: Edge)
     requires { ⌜ (length (now row) ≡ rowWidth) × (e .count ≤ mostReduces) ⌝ }
     ensures { λ _. ⌜ now (row .exit) ≡ rowWords (edgeIs e) ⌝ }
 {

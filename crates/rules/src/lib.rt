@@ -32,6 +32,7 @@ pub enum Conversion {
 }
 
 // A part of the rule slice.
+#[repr(C)]
 pub struct Stretch {
     pub start: u32,
     pub length: u32,
@@ -50,7 +51,7 @@ pub fn symbol(x: u32) -> bool
 }
 
 // Whether a body is whole items, each of a kind that there is and with a symbol.
-pub fn good_items(body: &[u32]) -> bool
+fn good_items(body: &[u32]) -> bool
     ensures { λ r. ⌜ r ≡ goodItems (now (body .entry)) ⌝ }
 {
     let mut i = 0;
@@ -70,7 +71,7 @@ pub fn good_items(body: &[u32]) -> bool
 }
 
 // Whether a rule may have this result and so many items.
-pub fn good_head(provable: words::SymbolNo, result: u32, items: u32) -> bool
+fn good_head(provable: words::SymbolNo, result: u32, items: u32) -> bool
     ensures { λ r. ⌜ r ≡ goodHead (provable .0) result items ⌝ }
 {
     if result == provable.0 {
@@ -94,7 +95,7 @@ pub fn size_of(s: &[u32]) -> usize
 }
 
 // Whether the rule that stands first turns a typecode into itself.
-pub fn equal_ends(s: &[u32]) -> bool
+fn equal_ends(s: &[u32]) -> bool
     requires { ⌜ (1 < length (now s)) × (sizeOf (now s) ≤ length (now s)) ⌝ }
     ensures { λ r. ⌜ r ≡ equalEnds (now (s .entry)) ⌝ }
 {
@@ -108,7 +109,7 @@ pub fn equal_ends(s: &[u32]) -> bool
 }
 
 // The words of the rule that stands first, if it is a good one.
-pub fn good_rule(s: &[u32], provable: words::SymbolNo) -> First
+fn good_rule(s: &[u32], provable: words::SymbolNo) -> First
     ensures { λ r. ⌜ r ≡ firstOf (provable .0) (now (s .entry)) ⌝ }
 {
     if s.len() < 2 {
@@ -131,7 +132,7 @@ pub fn good_rule(s: &[u32], provable: words::SymbolNo) -> First
 }
 
 // Whether the words are good rules, not too many of them, and no word is left over.
-pub fn good_rules(rules: &[u32], provable: words::SymbolNo) -> bool
+fn good_rules(rules: &[u32], provable: words::SymbolNo) -> bool
     ensures { λ r. ⌜ r ≡ goodRules (provable .0) mostRules (now (rules .entry)) ⌝ }
 {
     let mut i = 0;
@@ -174,7 +175,7 @@ pub fn count(rules: &[u32]) -> u32
     requires { ⌜ someRules (now rules) ≡ true ⌝ }
     ensures { λ r. ⌜ r ≡ length (theRules (now (rules .entry))) ⌝ }
 {
-    let mut n: u32 = 0;
+    let mut n = 0;
     let mut i = 0;
     while i < rules.len() {
         i += size_of(&rules[i..]);
@@ -220,7 +221,7 @@ pub fn body_of(s: &[u32]) -> &[u32]
 }
 
 // The slots among a body's items.
-pub fn slots_in(body: &[u32]) -> u32
+fn slots_in(body: &[u32]) -> u32
     requires { ⌜ (goodItems (now body) ≡ true) × (length (now body) ≤ itemWidth * mostItems) ⌝ }
     ensures { λ r. ⌜ r ≡ slots (itemsOf (now (body .entry))) ⌝ }
 {

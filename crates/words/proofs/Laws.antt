@@ -20,14 +20,6 @@ cleared-all s s₀ i e h k =
     let q : i ≡ length s₀ = le-antisymm h k in
     e ∙ rw (drop-of-length-le s₀ k, append-nil, q)
 
--- a turn that stores a word of another list at i: the loop that copies from the front
-pub copied-more : (s s₀ f : List ℕ) (i : ℕ) → s ≡ take i f ++ drop i s₀ → i < length s₀ → i < length f
-    → set s i (getD f i 0) ≡ take (i + 1) f ++ drop (i + 1) s₀
-copied-more s s₀ f i e h k =
-    rw (e, add-one, drop-cons s₀ i 0 h, take-suc f i 0 k)
-    (set-at (take i f) (getD s₀ i 0) (drop (suc i) s₀) (getD f i 0) i (length-take-le i f (omega arith))
-    ∙ sym (append-assoc (take i f) (getD f i 0 ∷ []) (drop (suc i) s₀)))
-
 -- the middle of a list, replaced to its end
 pub mid-end : (xs ys : List ℕ) (a : ℕ) → a ≤ length xs → putMid a (length xs - a) xs ys ≡ take a xs ++ ys
 mid-end xs ys a h =
@@ -41,14 +33,6 @@ cleared-from xs ys a e h =
     mid-end xs ys a h
     ∙ ap (λ (r : List ℕ). take a xs ++ r) (e ∙ ap (λ (n : ℕ). replicate n 0)
     (length-take-le (length xs - a) (drop a xs) (simp length-drop (omega arith)) ∙ ap (λ (n : ℕ). length xs - n) (sym (length-take-le a xs h))))
-
--- the end of the loop that copies, and the rest cleared
-pub put-done : (s s₀ f ys : List ℕ) (i : ℕ) → s ≡ take i f ++ drop i s₀ → ys ≡ replicate (length (take (length s - i) (drop i s))) 0
-    → length s ≡ length s₀ → i ≡ length f → i ≤ length s → putMid i (length s - i) s ys ≡ f ++ replicate (length s₀ - length f) 0
-put-done s s₀ f ys i e y l q h =
-    let t : take i f ≡ f = take-all i f (omega arith) in
-    let p : take i s ≡ f = rw (e, take-at (take i f) (drop i s₀) i (length-take-le i f (omega arith))) t in
-    cleared-from s ys i y h ∙ rw (p, l)
 
 -- ---- an element put in, with those above it moved up
 

@@ -61,19 +61,6 @@ pub fn clear_from(s: &mut [u32], at: usize)
     clear(&mut s[at..]);
 }
 
-// The words of `from`, then zeros.
-pub fn put(s: &mut [u32], from: &[u32])
-    requires { ⌜ length (now from) ≤ length (now s) ⌝ }
-    ensures { λ _. ⌜ now (s .exit) ≡ padded (now (from .entry)) (length (now (s .entry))) ⌝ }
-{
-    let mut i = 0;
-    while i < from.len() {
-        s[i] = from[i];
-        i += 1;
-    }
-    clear(&mut s[i..]);
-}
-
 // `x` before word `p` of the first `n`, which move up by one from there on.
 pub fn insert(s: &mut [u32], n: usize, p: usize, x: u32)
     requires { ⌜ (p ≤ n) × (n < length (now s)) ⌝ }

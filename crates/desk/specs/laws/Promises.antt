@@ -3,6 +3,7 @@ use mathlib.Core.Path.{_≡_, refl, sym, _∙_, ap}
 use mathlib.Core.Bool.{Bool, true, false, false≢true, not}
 use mathlib.Core.List.{List, [], _∷_, _++_}
 use mathlib.Core.Logic.{_≢_, _↔_}
+use mathlib.Core.Option.{Option, some, none}
 use Prim.Native.Nat.{ℕ, zero, suc, _+_, _*_, _-_, _/_, _≤_, _<_}
 use native.Mathlib.Nat.{sub-zero}
 use native.Mathlib.Omega.{arith}
@@ -16,10 +17,10 @@ use Rattle.words.specs.Outcome.{Res, ok, no, lesser, Demand, demand, firstFault
 use Rattle.words.specs.Numbers.{Fault, collides, noNode, noEdge, sixthReduce, badCopy, faultNumber}
 use Rattle.words.specs.laws.Tests.{lesser-le, lesser-is}
 use Rattle.words.specs.laws.Faults.{met, unmet, Clear, clear, Each, none-left, one-more, fault-is}
-use Rattle.rules.specs.Rules.{Rule, theRules, rulesGood, Stretch}
+use Rattle.rules.specs.Rules.{Rule, symbol, theRules, rulesGood, Stretch}
 use Rattle.rules.specs.laws.Proper.{Proper, rules-proper}
-use Rattle.rows.specs.Rows.{edgesOf, edgeWords, tablesGood}
-use Rattle.rows.specs.laws.Fair.{tables-fair, root-level, edge-fair}
+use Rattle.rows.specs.Rows.{Edge, edgesOf, edgeWords, find, tablesGood}
+use Rattle.rows.specs.laws.Fair.{RowOk, found, tables-fair}
 use Rattle.rows.specs.laws.Words.{edgeWords-length}
 use Rattle.tree.specs.Grow.{Grown, grow}
 use Rattle.tree.specs.laws.Built.{built-tables-pass}
@@ -30,7 +31,7 @@ use Rattle.formula.specs.laws.Check.{check-sound, check-complete, unique}
 use Rattle.walk.specs.Walk.{Tables, tablesOf, Walked, wantedOf, walk}
 use Rattle.walk.specs.Walk as passes
 use Rattle.walk.specs.laws.Mono.{More, Roomy, walk-mono}
-use Rattle.walk.specs.laws.View.{Fair, Slim}
+use Rattle.walk.specs.laws.Ample.{tables-ok, tables-slim}
 use Rattle.walk.specs.laws.Bound.{walk-bound}
 use Rattle.walk.specs.laws.Frames.{walk-frames}
 use Rattle.walk.specs.laws.Length.{walk-list}
@@ -144,17 +145,19 @@ unfolding parseGives parsed
 more-room q a a′ s s′ le w y = parsed-same s s′ _ _
     (walkOf-mono q a a′ (walkRoom s) (walkRoom s′) (room-grows s s′ w) le (record { passes = y .passes; frames = y .frames; list = y .list }))
 
+-- ---- a token outside the range of symbols matches nothing
+
+pub no-match : (q : Asked) → Passed q → (n k x : ℕ) → symbol x ≡ false → theTables (q .rules) (q .nodes) (q .edges) .edge n k x ≡ none
+unfolding tablesOf
+no-match q p n k x h = go (find (edgesOf (q .edges)) n k x) refl
+  where
+    go : (o : Option Edge) → find (edgesOf (q .edges)) n k x ≡ o → o ≡ none
+    go none e = refl
+    go (some d) e =
+        let r = found (RowOk _ (q .nodes)) (edgesOf (q .edges)) n k x d (tables-fair _ (q .nodes) (q .edges) (p .tables) .rows) e in
+        absurd (false≢true (sym h ∙ ap symbol (sym (r .3)) ∙ r .0 .symbol-in))
+
 -- ---- four-n: n tokens after the typecode; and the rooms that are always enough
-
-tables-ok : (q : Asked) → Passed q → Fair (theTables (q .rules) (q .nodes) (q .edges))
-unfolding tablesOf
-tables-ok q h =
-    let f = tables-fair _ (q .nodes) (q .edges) (h .tables) in
-    record { root = f .root; level = root-level f }
-
-tables-slim : (q : Asked) → Passed q → Slim (theTables (q .rules) (q .nodes) (q .edges))
-unfolding tablesOf
-tables-slim q h n k t e d = edge-fair (tables-fair _ (q .nodes) (q .edges) (h .tables)) n k t e d .few
 
 -- a statement with tokens after its typecode
 by-tokens : (ts : List ℕ) (P : List ℕ → Type 0) → 2 ≤ length ts → ((t : ℕ) (xs : List ℕ) → ts ≡ t ∷ xs → 1 ≤ length xs → P (t ∷ xs)) → P ts
@@ -169,19 +172,19 @@ module _ (q : Asked) (a : ℕ) (s : Lent) where
   unfolding parseGives parsed
   four-n h = number-is q 5 a (walkRoom s) (λ e. omega arith) (λ e. omega arith) (λ e. omega arith) (λ e. omega arith)
       λ p. by-tokens (q .tokens) (λ ts. answers ts .number ≢ 5) (p .long)
-      λ t xs e l. walk-bound _ (tables-ok q p) _ _ a (walkRoom s) t xs l (omega (arith, ap length e))
+      λ t xs e l. walk-bound _ (tables-ok (theRules (q .rules)) (q .nodes) (q .edges) (p .tables)) _ _ a (walkRoom s) t xs l (omega (arith, ap length e))
 
   pub frames-enough : length (q .tokens) ≤ s .frames + 2 → parseGives q a s .number ≢ 6
   unfolding parseGives parsed
   frames-enough h = number-is q 6 a (walkRoom s) (λ e. omega arith) (λ e. omega arith) (λ e. omega arith) (λ e. omega arith)
       λ p. by-tokens (q .tokens) (λ ts. answers ts .number ≢ 6) (p .long)
-      λ t xs e l. walk-frames _ (tables-ok q p .root) _ _ a (walkRoom s) t xs (omega (arith, ap length e))
+      λ t xs e l. walk-frames _ (tables-ok (theRules (q .rules)) (q .nodes) (q .edges) (p .tables) .root) _ _ a (walkRoom s) t xs (omega (arith, ap length e))
 
   pub list-enough : 17 * (length (q .tokens) - 1) ≤ s .list → 17 * (length (q .tokens) - 1) ≤ s .work → parseGives q a s .number ≢ 7
   unfolding parseGives parsed
   list-enough h k = number-is q 7 a (walkRoom s) (λ e. omega arith) (λ e. omega arith) (λ e. omega arith) (λ e. omega arith)
       λ p. by-tokens (q .tokens) (λ ts. answers ts .number ≢ 7) (p .long)
-      λ t xs e l. walk-list _ (tables-ok q p) (tables-slim q p) _ _ a (walkRoom s) t xs (lesser-is (s .list) (s .work) (17 * length xs) (omega (arith, ap length e)) (omega (arith, ap length e)))
+      λ t xs e l. walk-list _ (tables-ok (theRules (q .rules)) (q .nodes) (q .edges) (p .tables)) (tables-slim (theRules (q .rules)) (q .nodes) (q .edges) (p .tables)) _ _ a (walkRoom s) t xs (lesser-is (s .list) (s .work) (17 * length xs) (omega (arith, ap length e)) (omega (arith, ap length e)))
 
 -- ---- yes-exactly: the check alone says 0 exactly for a list that means the statement
 

@@ -75,7 +75,7 @@ pairs-ok rules row (suc m) (suc n) k l e g =
       pairs-ok rules row m n (k + 1) (le-of-suc-le-suc l) (omega arith) (and-r (goodPair _ _ _ _ _) _ g),
     )
 
-reduces-length : (n : ℕ) (ws : List ℕ) → length (reducesOf n ws) ≡ n
+pub reduces-length : (n : ℕ) (ws : List ℕ) → length (reducesOf n ws) ≡ n
 unfolding reducesOf
 reduces-length zero ws = refl
 reduces-length (suc n) ws = ap suc (reduces-length n (drop 2 ws))

@@ -102,7 +102,7 @@ module _ (rules : ℕ) (row : List ℕ) where
       rw (f .0, f .1, used-pair rules k (getD row 4 0) d (omega arith) (a .0)) (pairs-pass m (k + 1) ds (omega arith) (f .2) (a .1))
 
 -- the word after n pairs
-last-word : (n : ℕ) (ds : List Reduce) → getD (reduceWords n ds) (2 * n) 0 ≡ 0
+pub last-word : (n : ℕ) (ds : List Reduce) → getD (reduceWords n ds) (2 * n) 0 ≡ 0
 unfolding reduceWords
 last-word zero ds = refl
 last-word (suc n) [] = let two : 2 * suc n ≡ suc (suc (2 * n)) = omega arith in rw two (last-word n [])

@@ -16,24 +16,9 @@ use Rattle.words.specs.Numbers.{Fault, collides, noNode, noEdge, sixthReduce, b
 use Rattle.words.specs.laws.Tests.{and-l, and-r}
 use Rattle.rules.specs.Rules.{Item, con, slot, Rule, source}
 use Rattle.rows.specs.Rows.{Reduce, Edge, keyed, find}
+use Rattle.rows.specs.laws.Lookup.{orElse, find-append}
 use Rattle.tree.specs.Grow.{Grown, Room, kind, sym as symOf, edgeFor, branchAt, addEdge, addNode, placeLast, placeInner, place, placeRule, placeRules, rootAlone, grow}
 use Rattle.tree.specs.Grow.{addConverted, copyRow, copyBranches, convertTo, convertAt, convertNodes, convert, convertAll}
-
--- ---- the look-up in more rows
-
-abbrev orElse : Option Edge → Option Edge → Option Edge
-orElse (some d) o = some d
-orElse none o = o
-
-find-append : (es fs : List Edge) (n k s : ℕ) → find (es ++ fs) n k s ≡ orElse (find es n k s) (find fs n k s)
-unfolding find
-find-append [] fs n k s = refl
-find-append (e ∷ es) fs n k s = go (keyed n k s e) (find-append es fs n k s)
-  where
-    go : (b : Bool) → find (es ++ fs) n k s ≡ orElse (find es n k s) (find fs n k s)
-        → elim b [ true ↦ some e | false ↦ find (es ++ fs) n k s ] ≡ orElse (elim b [ true ↦ some e | false ↦ find es n k s ]) (find fs n k s)
-    go true h = refl
-    go false h = h
 
 same-item : (i j : Item) → kind i ≡ kind j → symOf i ≡ symOf j → i ≡ j
 unfolding kind symOf

@@ -1,0 +1,105 @@
+// The C boundary: the entry points of `desk` under C names. A slice passes as a pointer and a length. Nothing is asked of a caller but that its
+// slices are there; what comes back is what `desk` says.
+ghost use mathlib.Core.Path.{_≡_};
+ghost use lib.ListN.{length};
+ghost use Rattle.rules.specs.Code.{stretchOf};
+ghost use Rattle.desk.specs.Entry.{bodyGives, buildGives, parseGives, verifyGives};
+ghost use Rattle.desk.specs.Code.{builtIs, parsedIs, verifiedIs, lent};
+
+// Where rule `rule`'s body stands in the rules; 0, 0 where there is none.
+#[no_mangle]
+pub extern "C" fn jiehkavon_body(
+    provable: u32,
+    logic: u32,
+    rules: &[u32],
+    rule: u32,
+) -> rules::Stretch
+    ensures { λ r. ⌜ stretchOf r ≡ bodyGives provable logic (now (rules .entry)) rule ⌝ }
+{
+    let codes = rules::Codes {
+        provable: words::SymbolNo(provable),
+        logic: words::SymbolNo(logic),
+    };
+    desk::body_stretch(codes, rules, words::RuleNo(rule))
+}
+
+// The tree of the rules.
+#[no_mangle]
+pub extern "C" fn jiehkavon_build(
+    provable: u32,
+    logic: u32,
+    rules: &[u32],
+    nodes: &mut [u32],
+    edges: &mut [u32],
+) -> desk::Made
+    ensures { λ r. ⌜ builtIs r (now (nodes .exit)) (now (edges .exit))
+        ≡ buildGives provable logic (now (rules .entry)) (length (now (nodes .entry))) (length (now (edges .entry))) ⌝ }
+{
+    let codes = rules::Codes {
+        provable: words::SymbolNo(provable),
+        logic: words::SymbolNo(logic),
+    };
+    desk::build(codes, rules, nodes, edges)
+}
+
+// The check alone.
+#[no_mangle]
+pub extern "C" fn jiehkavon_verify(
+    provable: u32,
+    logic: u32,
+    rules: &[u32],
+    tokens: &[u32],
+    list: &[u32],
+    work: &mut [u32],
+) -> desk::Answer
+    ensures { λ r. ⌜ verifiedIs r (now (work .exit))
+        ≡ verifyGives provable logic (now (rules .entry)) (now (tokens .entry)) (now (list .entry)) (length (now (work .entry))) ⌝ }
+{
+    let codes = rules::Codes {
+        provable: words::SymbolNo(provable),
+        logic: words::SymbolNo(logic),
+    };
+    desk::verify(codes, rules, tokens, list, work)
+}
+
+// The statement's list of rules, or a refusal.
+#[no_mangle]
+pub extern "C" fn jiehkavon_parse(
+    provable: u32,
+    logic: u32,
+    rules: &[u32],
+    nodes: &[u32],
+    edges: &[u32],
+    tokens: &[u32],
+    allowance: u32,
+    frames: &mut [u32],
+    list: &mut [u32],
+    work: &mut [u32],
+) -> desk::Answer
+    ensures { λ r. ⌜ parsedIs r (now (frames .exit)) (now (list .exit)) (now (work .exit))
+        ≡ parseGives (record {
+          provable = provable;
+          logic = logic;
+          rules = now (rules .entry);
+          nodes = now (nodes .entry);
+          edges = now (edges .entry);
+          tokens = now (tokens .entry);
+        }) allowance
+        (lent (now (frames .entry)) (now (list .entry)) (now (work .entry))) ⌝ }
+{
+    let codes = rules::Codes {
+        provable: words::SymbolNo(provable),
+        logic: words::SymbolNo(logic),
+    };
+    desk::parse(
+        codes,
+        rules,
+        nodes,
+        edges,
+        tokens,
+        allowance,
+        frames,
+        list,
+        work,
+    )
+}
