@@ -1,0 +1,23 @@
+// The header in C++: its functions are found under their C names, and its structs have their C layout.
+#include <cstdio>
+
+#include "jiehkavon.h"
+
+static_assert(sizeof(jiehkavon_answer) == 16, "four words");
+static_assert(sizeof(jiehkavon_built) == 12, "three words");
+static_assert(sizeof(jiehkavon_stretch) == 8, "two words");
+
+int main() {
+    const uint32_t rules[] = {2, 1, 0, 10}, tokens[] = {1, 10};
+    uint32_t nodes[2], edges[JIEHKAVON_ROW_WIDTH], list[JIEHKAVON_ENOUGH_LIST(2)], work[JIEHKAVON_ENOUGH_LIST(2)];
+    const jiehkavon_built built = jiehkavon_build(1, 2, rules, 4, nodes, 2, edges, JIEHKAVON_ROW_WIDTH);
+    const jiehkavon_answer parsed = jiehkavon_parse(1, 2, rules, 4, nodes, 2, edges, JIEHKAVON_ROW_WIDTH, tokens, 2,
+                                                    JIEHKAVON_ENOUGH_PASSES(2), nullptr, 0, list,
+                                                    JIEHKAVON_ENOUGH_LIST(2), work, JIEHKAVON_ENOUGH_LIST(2));
+    const jiehkavon_answer verified = jiehkavon_verify(1, 2, rules, 4, tokens, 2, list, parsed.length, work, 1);
+    const jiehkavon_stretch body = jiehkavon_body(1, 2, rules, 4, 1);
+    const bool good = built.number == JIEHKAVON_OK && built.nodes == 2 && built.edges == 1 && parsed.number == JIEHKAVON_OK
+        && parsed.length == 1 && list[0] == 1 && verified.number == JIEHKAVON_OK && body.start == 2 && body.length == 2;
+    std::puts(good ? "1 passed, 0 failed" : "0 passed, 1 failed");
+    return good ? 0 : 1;
+}

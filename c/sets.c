@@ -1,0 +1,85 @@
+#include "sets.h"
+
+static const uint32_t rule_words[] = {
+    2, 1, 0, 10,                                 /* 1: 2 [c10] */
+    2, 1, 0, 11,                                 /* 2: 2 [c11] */
+    3, 1, 0, 12,                                 /* 3: 3 [c12] */
+    4, 1, 0, 13,                                 /* 4: 4 [c13] */
+    3, 1, 1, 4,                                  /* 5: 3 [s4] */
+    2, 2, 0, 14, 1, 2,                           /* 6: 2 [c14 s2] */
+    2, 5, 0, 5, 1, 2, 0, 7, 1, 2, 0, 6,          /* 7: 2 [c5 s2 c7 s2 c6] */
+    2, 3, 1, 3, 0, 8, 1, 3,                      /* 8: 2 [s3 c8 s3] */
+    2, 3, 1, 3, 0, 9, 1, 3,                      /* 9: 2 [s3 c9 s3] */
+};
+
+static const uint32_t node_words[S_NODES] = {0, 1, 2, 3, 4, 0, 6, 0, 0, 0, 0, 7, 0, 0, 8, 0, 9};
+
+/* from, kind, symbol, to; the last three have one reduce, rule 5 at offset 0 */
+static const uint32_t edge_words[S_EDGES][16] = {
+    {0, 0, 10, 1},
+    {0, 0, 11, 2},
+    {0, 0, 12, 3},
+    {0, 0, 13, 4},
+    {0, 0, 14, 5},
+    {5, 1, 2, 6},
+    {0, 0, 5, 7},
+    {7, 1, 2, 8},
+    {8, 0, 7, 9},
+    {9, 1, 2, 10},
+    {10, 0, 6, 11},
+    {0, 1, 3, 12},
+    {12, 0, 8, 13},
+    {13, 1, 3, 14},
+    {12, 0, 9, 15},
+    {15, 1, 3, 16},
+    {0, 1, 4, 12, 1, 5, 0},
+    {13, 1, 4, 14, 1, 5, 0},
+    {15, 1, 4, 16, 1, 5, 0},
+};
+
+static const uint32_t ten_pass_words[] = {1, 5, 10, 7, 11, 6};
+static const uint32_t ten_pass_list_words[] = {1, 2, 7};
+
+static const uint32_t one_rule[] = {2, 1, 0, 10};
+static const uint32_t one_nodes[] = {0, 1};
+static const uint32_t one_edge[16] = {0, 0, 10, 1};
+static const uint32_t one_tokens[] = {1, 10};
+static const uint32_t one_list[] = {1};
+
+const slice rules_s = WORDS(rule_words);
+const slice nodes_s = WORDS(node_words);
+const slice edges_s = {(uint32_t *)edge_words, S_EDGES * 16};
+const slice ten_passes = WORDS(ten_pass_words);
+const slice ten_passes_list = WORDS(ten_pass_list_words);
+const slice rules_one = WORDS(one_rule);
+const slice nodes_one = WORDS(one_nodes);
+const slice edges_one = WORDS(one_edge);
+const slice tokens_one = WORDS(one_tokens);
+const slice list_one = WORDS(one_list);
+
+call call_s(int entry, uint32_t number) {
+    call c = {.entry = entry, .provable = PROVABLE, .logic = LOGIC, .number = number};
+    c.slices[RULES] = rules_s;
+    if (entry == PARSE) {
+        c.slices[NODES] = nodes_s;
+        c.slices[EDGES] = edges_s;
+    }
+    c.slices[TOKENS] = ten_passes;
+    return c;
+}
+
+slice garbage(size_t length) {
+    static uint32_t words[MOST_GARBAGE];
+    for (uint32_t i = 0; words[0] == 0 && i < MOST_GARBAGE; i++)
+        words[MOST_GARBAGE - 1 - i] = 0xbad00000u + i;
+    return (slice){words, length};
+}
+
+slice prefixes(size_t count) {
+    static uint32_t words[4098];
+    words[0] = PROVABLE;
+    for (size_t i = 1; i <= count; i++)
+        words[i] = 14;
+    words[count + 1] = 10;
+    return (slice){words, count + 2};
+}

@@ -1,0 +1,33 @@
+/* Set S of the training sheet and its tree, and a set of one rule. */
+#ifndef SETS_H
+#define SETS_H
+
+#include "calls.h"
+
+#define LENGTH(array) (sizeof(array) / sizeof((array)[0]))
+
+/* An array as a slice, to begin one with and to put somewhere. It is not written to. */
+#define WORDS(array) {(uint32_t *)(array), LENGTH(array)}
+#define SLICE(array) ((slice)WORDS(array))
+
+enum { PROVABLE = 1, LOGIC = 2, S_NODES = 17, S_EDGES = 19 };
+
+extern const slice rules_s, nodes_s, edges_s;
+
+/* 1 5 10 7 11 6 and its list. */
+extern const slice ten_passes, ten_passes_list;
+
+/* 2: c10, its tree, and 1 10 with its list. */
+extern const slice rules_one, nodes_one, edges_one, tokens_one, list_one;
+
+/* A call over set S, with the ten-pass sentence and no room at all. */
+call call_s(int entry, uint32_t number);
+
+/* Slices lent for writing hold this before a call: so many words that are no zeros. */
+enum { MOST_GARBAGE = 70000 };
+slice garbage(size_t length);
+
+/* The provable typecode, `count` times c14 of set S, and c10, for at most 4,096 of them. */
+slice prefixes(size_t count);
+
+#endif

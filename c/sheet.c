@@ -1,0 +1,279 @@
+#include "sheet.h"
+
+#include <stdio.h>
+#include <string.h>
+
+#include "check.h"
+#include "jiehkavon.h"
+#include "sets.h"
+
+/* What a slice has to hold afterwards; the rest of it is zero. */
+typedef struct expected {
+    outcome given;
+    slice front[SLICES];
+} expected;
+
+static int holds(slice s, slice front) {
+    if (front.length > s.length || (front.length > 0 && memcmp(s.words, front.words, front.length * sizeof(uint32_t)) != 0))
+        return 0;
+    for (size_t i = front.length; i < s.length; i++)
+        if (s.words[i] != 0)
+            return 0;
+    return 1;
+}
+
+/* One check for what comes back by value, one for each slice lent for writing. */
+static void check_call(const call *c, const expected *e, const char *what) {
+    call mine = own(c, 0);
+    outcome o = ask(&mine);
+    check(memcmp(&o, &e->given, sizeof o) == 0, "%s: gave %u %u %u %u", what, o.words[0], o.words[1], o.words[2], o.words[3]);
+    for (int kind = 0; kind < SLICES; kind++)
+        if (writes(c->entry, kind))
+            check(holds(mine.slices[kind], e->front[kind]), "%s: words left in slice %d", what, kind);
+    disown(&mine);
+}
+
+static void check_bodies(void) {
+    static const uint32_t stretches[][3] = {
+        {0, 0, 0}, {1, 2, 2}, {2, 6, 2}, {3, 10, 2}, {4, 14, 2}, {5, 18, 2}, {6, 22, 4}, {7, 28, 10}, {8, 40, 6}, {9, 48, 6}, {10, 0, 0},
+        {2049, 0, 0}, {UINT32_MAX, 0, 0},
+    };
+    for (size_t i = 0; i < LENGTH(stretches); i++) {
+        call c = call_s(BODY, stretches[i][0]);
+        expected e = {.given = {{stretches[i][1], stretches[i][2], 0, 0}}};
+        check_call(&c, &e, "body of set S");
+        c.logic = PROVABLE;
+        e.given = (outcome){{0, 0, 0, 0}};
+        check_call(&c, &e, "body of bad rules");
+    }
+}
+
+/* Set S in so much room. */
+static void check_build(size_t nodes, size_t edge_words, uint32_t number) {
+    call c = call_s(BUILD, 0);
+    expected e = {.given = {{number, 0, 0, 0}}};
+    c.slices[NODES] = garbage(nodes);
+    c.slices[EDGES] = garbage(edge_words);
+    if (number == JIEHKAVON_OK) {
+        e.given = (outcome){{JIEHKAVON_OK, S_NODES, S_EDGES, 0}};
+        e.front[NODES] = nodes_s;
+        e.front[EDGES] = edges_s;
+    }
+    check_call(&c, &e, "build of set S");
+}
+
+static void check_builds(void) {
+    const size_t all = (size_t)S_EDGES * JIEHKAVON_ROW_WIDTH;
+    check_build(S_NODES, all, JIEHKAVON_OK);
+    check_build(S_NODES + 5, all + 40, JIEHKAVON_OK);
+    check_build(S_NODES - 1, all, JIEHKAVON_NODES_FULL);
+    check_build(0, 0, JIEHKAVON_NODES_FULL);
+    check_build(S_NODES, all - 1, JIEHKAVON_EDGES_FULL);
+    check_build(S_NODES, 0, JIEHKAVON_EDGES_FULL);
+}
+
+/* Rules that can't be built, whatever the room. */
+static void check_refused_builds(void) {
+    static const uint32_t empty_body[] = {2, 0};
+    static const uint32_t collision[] = {2, 1, 0, 10, 3, 2, 0, 10, 0, 11};
+    static const uint32_t six_links[] = {20, 1, 0, 30, 2, 2, 0, 31, 1, 26, 26, 1, 1, 25, 25, 1, 1, 24,
+                                         24, 1, 1, 23, 23, 1, 1, 22, 22, 1, 1, 21, 21, 1, 1, 20};
+    static const uint32_t bad_copy[] = {2, 2, 0, 10, 1, 2, 2, 2, 0, 10, 1, 3, 2, 1, 1, 3};
+    const struct {
+        slice rules;
+        uint32_t number;
+    } rows[] = {
+        {WORDS(empty_body), JIEHKAVON_BAD_RULES},
+        {WORDS(collision), JIEHKAVON_COLLISION},
+        {WORDS(six_links), JIEHKAVON_SIXTH_REDUCE},
+        {WORDS(bad_copy), JIEHKAVON_BAD_COPY},
+    };
+    for (size_t i = 0; i < LENGTH(rows); i++) {
+        call c = call_s(BUILD, 0);
+        expected e = {.given = {{rows[i].number, 0, 0, 0}}};
+        c.slices[RULES] = rows[i].rules;
+        c.slices[NODES] = garbage(100);
+        c.slices[EDGES] = garbage(1600);
+        check_call(&c, &e, "build of rules that can't be built");
+    }
+}
+
+typedef struct row {
+    size_t length;
+    uint32_t tokens[6];
+    outcome given;
+    uint32_t list[5];
+} row;
+
+static void check_rows(void) {
+    static const row rows[] = {
+        {0, {0}, {{1, 0, 0, 0}}, {0}},
+        {1, {1}, {{1, 0, 0, 0}}, {0}},
+        {2, {1, 10}, {{0, 0, 1, 2}}, {1}},
+        {6, {1, 5, 10, 7, 11, 6}, {{0, 0, 3, 10}}, {1, 2, 7}},
+        {4, {1, 13, 8, 12}, {{0, 0, 4, 7}}, {4, 5, 3, 8}},
+        {4, {1, 13, 8, 13}, {{0, 0, 5, 7}}, {4, 5, 4, 5, 8}},
+        {2, {3, 13}, {{0, 0, 2, 2}}, {4, 5}},
+        {2, {1, 13}, {{3, 1, 0, 3}}, {0}},
+        {3, {1, 10, 10}, {{2, 1, 0, 2}}, {0}},
+        {2, {1, 6}, {{2, 1, 0, 1}}, {0}},
+        {3, {1, 5, 6}, {{2, 2, 0, 3}}, {0}},
+        {3, {1, 5, 10}, {{3, 2, 0, 5}}, {0}},
+        {2, {1, 65546}, {{2, 1, 0, 1}}, {0}},
+    };
+    for (size_t i = 0; i < LENGTH(rows); i++) {
+        const row *r = &rows[i];
+        call c = call_s(PARSE, (uint32_t)JIEHKAVON_ENOUGH_PASSES(r->length));
+        expected e = {.given = r->given};
+        char what[40];
+        snprintf(what, sizeof what, "row %zu of the sheet", i);
+        c.slices[TOKENS] = (slice){(uint32_t *)r->tokens, r->length};
+        c.slices[FRAMES] = garbage(JIEHKAVON_ENOUGH_FRAMES(r->length));
+        c.slices[LIST] = garbage(JIEHKAVON_ENOUGH_LIST(r->length));
+        c.slices[WORK] = garbage(JIEHKAVON_ENOUGH_LIST(r->length));
+        e.front[LIST] = (slice){(uint32_t *)r->list, r->given.words[2]};
+        check_call(&c, &e, what);
+    }
+}
+
+/* The ten-pass sentence with room that is short by one, and just enough. */
+static void check_rooms(void) {
+    static const struct {
+        uint32_t allowance;
+        size_t frames, list, work;
+        outcome given;
+    } rows[] = {
+        {9, 1, 3, 3, {{JIEHKAVON_PASSES_USED_UP, 0, 0, 9}}},  {10, 1, 3, 3, {{JIEHKAVON_OK, 0, 3, 10}}},
+        {10, 0, 3, 3, {{JIEHKAVON_FRAMES_FULL, 0, 0, 2}}},    {10, 1, 2, 3, {{JIEHKAVON_LIST_FULL, 0, 0, 10}}},
+        {10, 1, 3, 2, {{JIEHKAVON_LIST_FULL, 0, 0, 10}}},     {UINT32_MAX, 9, 9, 9, {{JIEHKAVON_OK, 0, 3, 10}}},
+        {0, 0, 0, 0, {{JIEHKAVON_PASSES_USED_UP, 0, 0, 0}}},
+    };
+    for (size_t i = 0; i < LENGTH(rows); i++) {
+        call c = call_s(PARSE, rows[i].allowance);
+        expected e = {.given = rows[i].given};
+        c.slices[FRAMES] = garbage(rows[i].frames);
+        c.slices[LIST] = garbage(rows[i].list);
+        c.slices[WORK] = garbage(rows[i].work);
+        if (rows[i].given.words[0] == JIEHKAVON_OK)
+            e.front[LIST] = ten_passes_list;
+        check_call(&c, &e, "the ten-pass sentence");
+    }
+}
+
+/* Refusals before the walk, in their order. */
+static void check_refused_parses(void) {
+    expected e = {.given = {{JIEHKAVON_BAD_RULES, 0, 0, 0}}};
+    call c = call_s(PARSE, 99);
+    c.slices[FRAMES] = c.slices[LIST] = c.slices[WORK] = garbage(20);
+    c.slices[EDGES].length--;
+    c.slices[TOKENS].length = 0;
+    c.provable = 0;
+    check_call(&c, &e, "parse with bad rules");
+    c.provable = PROVABLE;
+    e.given.words[0] = JIEHKAVON_BAD_TABLES;
+    check_call(&c, &e, "parse with bad tables");
+    c.slices[EDGES] = edges_s;
+    e.given.words[0] = JIEHKAVON_TOO_SHORT;
+    check_call(&c, &e, "parse of no tokens");
+    c.slices[TOKENS] = prefixes(4096);
+    e.given.words[0] = JIEHKAVON_TOO_LONG;
+    check_call(&c, &e, "parse of 4,098 tokens");
+}
+
+/* A row of zeros after the edges is no edge; a node of zero after the nodes is a branch. */
+static void check_uncut_tables(void) {
+    uint32_t nodes[S_NODES + 1] = {0}, edges[(S_EDGES + 1) * JIEHKAVON_ROW_WIDTH] = {0};
+    call c = call_s(PARSE, 99);
+    expected e = {.given = {{JIEHKAVON_OK, 0, 3, 10}}};
+    memcpy(nodes, nodes_s.words, S_NODES * sizeof(uint32_t));
+    memcpy(edges, edges_s.words, edges_s.length * sizeof(uint32_t));
+    c.slices[FRAMES] = c.slices[LIST] = c.slices[WORK] = garbage(20);
+    c.slices[NODES] = SLICE(nodes);
+    e.front[LIST] = ten_passes_list;
+    check_call(&c, &e, "a node too many");
+    c.slices[EDGES] = SLICE(edges);
+    e = (expected){.given = {{JIEHKAVON_BAD_TABLES, 0, 0, 0}}};
+    check_call(&c, &e, "a row of zeros");
+}
+
+static void check_longest(void) {
+    static uint32_t list[4096];
+    call c = call_s(PARSE, 4 * 4096);
+    expected e = {.given = {{JIEHKAVON_OK, 0, 4096, 12287}}};
+    c.slices[TOKENS] = prefixes(4095);
+    check(c.slices[TOKENS].length == JIEHKAVON_MOST_TOKENS, "the longest statement has %zu tokens", c.slices[TOKENS].length);
+    c.slices[FRAMES] = garbage(JIEHKAVON_ENOUGH_FRAMES(JIEHKAVON_MOST_TOKENS));
+    c.slices[LIST] = c.slices[WORK] = garbage(JIEHKAVON_ENOUGH_LIST(JIEHKAVON_MOST_TOKENS));
+    for (size_t i = 0; i < LENGTH(list); i++)
+        list[i] = i == 0 ? 1 : 6;
+    e.front[LIST] = SLICE(list);
+    check_call(&c, &e, "parse of 4,097 tokens");
+    c.entry = VERIFY;
+    c.slices[LIST] = SLICE(list);
+    c.slices[WORK] = garbage(LENGTH(list));
+    e = (expected){.given = {{JIEHKAVON_OK, 0, 0, 0}}};
+    check_call(&c, &e, "check of 4,097 tokens");
+}
+
+static void check_verifies(void) {
+    static const uint32_t swapped[] = {2, 1, 7}, short_by_one[] = {1, 2};
+    const struct {
+        slice list;
+        size_t work;
+        uint32_t number;
+    } rows[] = {
+        {ten_passes_list, 3, JIEHKAVON_OK},
+        {ten_passes_list, 7, JIEHKAVON_OK},
+        {ten_passes_list, 2, JIEHKAVON_LIST_FULL},
+        {WORDS(swapped), 3, JIEHKAVON_NOT_WELL_TYPED},
+        {WORDS(short_by_one), 3, JIEHKAVON_NOT_WELL_TYPED},
+        {{NULL, 0}, 3, JIEHKAVON_NOT_WELL_TYPED},
+    };
+    for (size_t i = 0; i < LENGTH(rows); i++) {
+        call c = call_s(VERIFY, 0);
+        expected e = {.given = {{rows[i].number, 0, 0, 0}}};
+        c.slices[LIST] = rows[i].list;
+        c.slices[WORK] = garbage(rows[i].work);
+        check_call(&c, &e, "check of the ten-pass sentence");
+        c.slices[TOKENS].length = 1;
+        e.given.words[0] = JIEHKAVON_TOO_SHORT;
+        check_call(&c, &e, "check of a statement of one token");
+        c.logic = LOGIC + 70000;
+        e.given.words[0] = JIEHKAVON_BAD_RULES;
+        check_call(&c, &e, "check with bad rules");
+    }
+}
+
+/* Set T: the walk does not find the tree that the check accepts. */
+static void check_set_t(void) {
+    static const uint32_t rules[] = {20, 1, 0, 30, 21, 1, 1, 20, 22, 1, 1, 21, 2, 2, 0, 31, 1, 22};
+    static const uint32_t tokens[] = {1, 31, 30}, list[] = {1, 2, 3, 4};
+    uint32_t nodes[9], edges[9 * JIEHKAVON_ROW_WIDTH];
+    jiehkavon_built built = jiehkavon_build(PROVABLE, LOGIC, rules, LENGTH(rules), nodes, LENGTH(nodes), edges, LENGTH(edges));
+    call c = call_s(PARSE, 99);
+    expected e = {.given = {{JIEHKAVON_NOT_WELL_TYPED, 0, 0, 4}}};
+    check(built.number == JIEHKAVON_OK, "build of set T gave %u", built.number);
+    c.slices[RULES] = SLICE(rules);
+    c.slices[NODES] = (slice){nodes, built.nodes};
+    c.slices[EDGES] = (slice){edges, (size_t)JIEHKAVON_ROW_WIDTH * built.edges};
+    c.slices[TOKENS] = SLICE(tokens);
+    c.slices[FRAMES] = c.slices[LIST] = c.slices[WORK] = garbage(60);
+    check_call(&c, &e, "set T's sentence");
+    c.entry = VERIFY;
+    c.slices[LIST] = SLICE(list);
+    e.given = (outcome){{JIEHKAVON_OK, 0, 0, 0}};
+    check_call(&c, &e, "check of set T's sentence");
+}
+
+void check_sheet(void) {
+    check_bodies();
+    check_builds();
+    check_refused_builds();
+    check_rows();
+    check_rooms();
+    check_refused_parses();
+    check_uncut_tables();
+    check_longest();
+    check_verifies();
+    check_set_t();
+}

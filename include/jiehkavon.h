@@ -1,0 +1,136 @@
+/* A Metamath statement parser that is proved. This is its C boundary; the code behind it is libdesk_c.a, for x86-64.
+ *
+ * A slice is two arguments, a pointer to 32-bit words and how many there are. An empty slice may have any pointer,
+ * NULL among them. What a caller owes is this alone: the words of each slice are there for the length of the call,
+ * and a slice lent for writing overlaps no other slice of the call. Nothing is asked of the words themselves. Every
+ * call ends, allocates nothing, keeps no pointer and has no state; two threads may call at once with slices of their
+ * own.
+ *
+ * Every call takes the provable and the logic typecode and the rules. A rule is its result typecode, the number of
+ * its items, and two words for each item: 0 and a constant, or 1 and the typecode of a slot. Rules are numbered from
+ * 1. A rule of one slot is a conversion.
+ */
+#ifndef JIEHKAVON_H
+#define JIEHKAVON_H
+
+#include <stddef.h>
+#include <stdint.h>
+
+#ifdef __cplusplus
+extern "C" {
+#endif
+
+/* What an answer's number means. */
+enum {
+    JIEHKAVON_OK = 0,              /* accepted, or built */
+    JIEHKAVON_TOO_SHORT = 1,       /* fewer than two tokens */
+    JIEHKAVON_UNPARSEABLE = 2,     /* no rule goes on at the place */
+    JIEHKAVON_UNFINISHED = 3,      /* the tokens end where a rule wants more; the place is the last one */
+    JIEHKAVON_NOT_WELL_TYPED = 4,  /* no well typed tree that spells the statement */
+    JIEHKAVON_PASSES_USED_UP = 5,  /* a further pass is needed and the allowance is used up */
+    JIEHKAVON_FRAMES_FULL = 6,     /* a frame is needed and the frame slice is full */
+    JIEHKAVON_LIST_FULL = 7,       /* an entry is needed and the list or its work slice is full */
+    JIEHKAVON_BAD_TABLES = 8,      /* the nodes or the edges are bad */
+    JIEHKAVON_TOO_LONG = 9,        /* more than JIEHKAVON_MOST_TOKENS tokens */
+    JIEHKAVON_BAD_RULES = 10,      /* the rules, or the two typecodes, are bad */
+    JIEHKAVON_COLLISION = 11,      /* a body equals, begins or continues an earlier one */
+    JIEHKAVON_NODES_FULL = 12,     /* a node is needed and none is free */
+    JIEHKAVON_EDGES_FULL = 13,     /* an edge is needed and none is free */
+    JIEHKAVON_SIXTH_REDUCE = 14,   /* conversions put a sixth reduce on an edge */
+    JIEHKAVON_BAD_COPY = 16        /* a conversion would copy from or to a leaf, or a node to itself */
+};
+
+/* Limits. What passes them is refused, by the numbers above. */
+enum {
+    JIEHKAVON_MOST_SYMBOL = 65535, /* symbols and typecodes are 1 to this */
+    JIEHKAVON_MOST_RULES = 2048,
+    JIEHKAVON_MOST_ITEMS = 32,     /* of a rule */
+    JIEHKAVON_MOST_NODES = 8192,
+    JIEHKAVON_MOST_EDGES = 16384,
+    JIEHKAVON_MOST_REDUCES = 5,    /* of an edge */
+    JIEHKAVON_MOST_OFFSET = 255,   /* of a reduce */
+    JIEHKAVON_MOST_TOKENS = 4097   /* of a statement, its typecode among them */
+};
+
+/* Sizes. */
+enum {
+    JIEHKAVON_ITEM_WIDTH = 2,      /* words of an item */
+    JIEHKAVON_ROW_WIDTH = 16       /* words of an edge: from, kind, symbol, to, count, five times rule and offset, 0 */
+};
+
+/* Passes and room that are always enough for a statement of `tokens` tokens, its typecode among them: for n tokens
+ * after the typecode 4n passes, n - 1 frames, and 17n words for the list and 17n for its work slice. With these a
+ * parse never answers 5, 6 or 7; that is proved, for any tables. Lending more changes nothing. */
+#define JIEHKAVON_AFTER_TYPECODE(tokens) ((tokens) > 0 ? (tokens) - 1 : 0)
+#define JIEHKAVON_ENOUGH_PASSES(tokens) (4 * JIEHKAVON_AFTER_TYPECODE(tokens))
+#define JIEHKAVON_ENOUGH_FRAMES(tokens) JIEHKAVON_AFTER_TYPECODE(JIEHKAVON_AFTER_TYPECODE(tokens))
+#define JIEHKAVON_ENOUGH_LIST(tokens) (17 * JIEHKAVON_AFTER_TYPECODE(tokens))
+
+/* What a parse or a check answers. */
+typedef struct jiehkavon_answer {
+    uint32_t number; /* JIEHKAVON_OK, or why not */
+    uint32_t place;  /* for 2 and 3 the token, the typecode being token 0; else 0 */
+    uint32_t length; /* the words of the list; 0 if refused, and for a check */
+    uint32_t passes; /* the passes used, a refused one among them; 0 if no walk was begun, and for a check */
+} jiehkavon_answer;
+
+/* What a build answers. */
+typedef struct jiehkavon_built {
+    uint32_t number; /* JIEHKAVON_OK, or why not */
+    uint32_t nodes;  /* the words of the node slice that are nodes; 0 if refused */
+    uint32_t edges;  /* the rows of the edge slice that are edges; 0 if refused */
+} jiehkavon_built;
+
+/* A part of the rule slice: its first word and how many; 0 and 0 where there is no body. */
+typedef struct jiehkavon_stretch {
+    uint32_t start;
+    uint32_t length;
+} jiehkavon_stretch;
+
+/* Where the body of rule `rule` stands in the rules: two words for each item. It is empty if there is no such rule, or
+ * if any rule is bad. */
+jiehkavon_stretch jiehkavon_body(
+    uint32_t provable, uint32_t logic,
+    const uint32_t *rules, size_t rules_length,
+    uint32_t rule);
+
+/* Makes the tree of the rules. The nodes are at the front of `nodes`, the edges at the front of `edges`, zeros after
+ * them. A node is one word, 0 for a branch, else the rule of a leaf; node 0 is the root and needs room too. If
+ * refused (10 to 14, 16), both slices are zero. */
+jiehkavon_built jiehkavon_build(
+    uint32_t provable, uint32_t logic,
+    const uint32_t *rules, size_t rules_length,
+    uint32_t *nodes, size_t nodes_length,
+    uint32_t *edges, size_t edges_length);
+
+/* Walks a statement through the tables, in at most `allowance` passes. `tokens` begins with the typecode; where that
+ * is the provable one, the logic one is wanted. If accepted, the front of `list` holds the formula's rule numbers in
+ * postfix order, zeros after them; it is a well typed tree over the rules and spells the statement, whatever the
+ * tables are. If refused (1 to 10), `list` is zero. `frames` and `work` are zero afterwards in either case. The edge
+ * slice has to be cut to the count that the build gave: a row of zeros is no edge. */
+jiehkavon_answer jiehkavon_parse(
+    uint32_t provable, uint32_t logic,
+    const uint32_t *rules, size_t rules_length,
+    const uint32_t *nodes, size_t nodes_length,
+    const uint32_t *edges, size_t edges_length,
+    const uint32_t *tokens, size_t tokens_length,
+    uint32_t allowance,
+    uint32_t *frames, size_t frames_length,
+    uint32_t *list, size_t list_length,
+    uint32_t *work, size_t work_length);
+
+/* Checks a list, whoever made it: 0 exactly if it is a well typed tree of the wanted typecode that spells the
+ * statement, else 4. Before that come 10, 1, 9, and 7 for a work slice shorter than the list. `work` is zero
+ * afterwards. */
+jiehkavon_answer jiehkavon_verify(
+    uint32_t provable, uint32_t logic,
+    const uint32_t *rules, size_t rules_length,
+    const uint32_t *tokens, size_t tokens_length,
+    const uint32_t *list, size_t list_length,
+    uint32_t *work, size_t work_length);
+
+#ifdef __cplusplus
+}
+#endif
+
+#endif

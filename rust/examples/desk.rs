@@ -1,0 +1,106 @@
+//! A small desk: rules for interlocks, statements as text, their trees. Run it with `rust/cargo run --example desk`.
+
+use std::collections::HashMap;
+use std::error::Error;
+
+use jiehkavon::{Grammar, Item, ParseError, Parser, RuleNo, Rules, Statement, Subtree, Symbol};
+
+/// Gives each name a symbol of its own, in the order in which they come up.
+#[derive(Default)]
+struct Names {
+    symbols: HashMap<String, Symbol>,
+}
+
+impl Names {
+    fn symbol(&mut self, name: &str) -> Result<Symbol, Box<dyn Error>> {
+        if let Some(&symbol) = self.symbols.get(name) {
+            return Ok(symbol);
+        }
+        let symbol = Symbol::try_from(u32::try_from(self.symbols.len() + 1)?)?;
+        self.symbols.insert(name.to_string(), symbol);
+        Ok(symbol)
+    }
+
+    /// Words in angle brackets are slots.
+    fn item(&mut self, word: &str) -> Result<Item, Box<dyn Error>> {
+        match word.strip_prefix('<').and_then(|word| word.strip_suffix('>')) {
+            Some(typecode) => Ok(Item::Slot(self.symbol(typecode)?)),
+            None => Ok(Item::Constant(self.symbol(word)?)),
+        }
+    }
+
+    /// The first word is the typecode.
+    fn statement(&mut self, text: &str) -> Result<Statement, Box<dyn Error>> {
+        text.split_whitespace().map(|word| self.symbol(word)).collect()
+    }
+}
+
+type Titles = HashMap<RuleNo, &'static str>;
+
+/// Each rule has a title, a result and a body.
+const RULES: [(&str, &str, &str); 7] = [
+    ("level low", "wff", "low"),
+    ("level high", "wff", "high"),
+    ("pump", "pump", "standby"),
+    ("tank", "thing", "main"),
+    ("a pump is a thing", "thing", "<pump>"),
+    ("full", "wff", "<thing> is-full"),
+    ("implies", "wff", "( <wff> -> <wff> )"),
+];
+
+/// The grammar, and what its rules are called.
+fn grammar(names: &mut Names) -> Result<(Grammar, Titles), Box<dyn Error>> {
+    let mut rules = Rules::new(names.symbol("|-")?, names.symbol("wff")?);
+    let mut titles = Titles::new();
+    for (title, result, body) in RULES {
+        let items: Result<Vec<Item>, _> = body.split_whitespace().map(|word| names.item(word)).collect();
+        titles.insert(rules.push(names.symbol(result)?, &items?), title);
+    }
+    Ok((Grammar::build(rules)?, titles))
+}
+
+/// An entry, and under it what fills its slots.
+fn show(part: Subtree<'_>, titles: &Titles, depth: usize) {
+    println!(
+        "{:indent$}rule {}: {}",
+        "",
+        part.rule(),
+        titles[&part.rule()],
+        indent = 4 + 2 * depth
+    );
+    for child in part.children() {
+        show(child, titles, depth + 1);
+    }
+}
+
+fn main() -> Result<(), Box<dyn Error>> {
+    let mut names = Names::default();
+    let (grammar, titles) = grammar(&mut names)?;
+    println!(
+        "{} rules, {} nodes, {} edges",
+        grammar.rules().len(),
+        grammar.tables().node_words().len(),
+        grammar.tables().edges().count()
+    );
+    let mut parser = Parser::new();
+    for text in [
+        "|- ( low -> standby is-full )",
+        "|- ( low -> high",
+        "|- low low",
+        "|- ( low -> flood )",
+    ] {
+        println!("{text}");
+        let statement = names.statement(text)?;
+        match parser.parse(&grammar, &statement) {
+            Ok(parsed) => {
+                println!("  list {:?} after {} passes", parsed.formula.words(), parsed.passes);
+                show(parsed.formula.tree(grammar.rules()).ok_or("no tree")?.root(), &titles, 0);
+            }
+            Err(refusal @ (ParseError::Unparseable { place, .. } | ParseError::Unfinished { place, .. })) => {
+                println!("  {refusal}: {}", text.split_whitespace().nth(place).unwrap_or("?"));
+            }
+            Err(refusal) => println!("  {refusal}"),
+        }
+    }
+    Ok(())
+}

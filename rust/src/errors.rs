@@ -1,0 +1,266 @@
+//! Refusals, by their number in the paper.
+
+use std::error::Error;
+use std::fmt;
+
+use crate::words::{Answer, Built};
+
+/// Why a build was refused. A refused build leaves nothing behind.
+#[derive(Clone, Copy, Debug, PartialEq, Eq, Hash)]
+pub enum BuildError {
+    /// 10: a word of the rules is out of its range, a result is the provable typecode, or the provable and the logic typecode are one.
+    BadRules,
+    /// 11: a rule's body equals, begins or continues that of an earlier rule.
+    Collision,
+    /// 12: a node is needed and none is free.
+    NodesFull,
+    /// 13: an edge is needed and none is free.
+    EdgesFull,
+    /// 14: conversions put a sixth reduce on an edge.
+    SixthReduce,
+    /// 16: a conversion would copy from or to a leaf, or a node to itself.
+    BadCopy,
+    /// A number that no build answers with. The library is proved not to; the type of a C function can't say that.
+    Unlisted(u32),
+}
+
+impl BuildError {
+    /// What an answer of [`crate::words::build`] refuses; none if it is 0.
+    pub fn of(built: Built) -> Option<BuildError> {
+        match built.number {
+            0 => None,
+            10 => Some(BuildError::BadRules),
+            11 => Some(BuildError::Collision),
+            12 => Some(BuildError::NodesFull),
+            13 => Some(BuildError::EdgesFull),
+            14 => Some(BuildError::SixthReduce),
+            16 => Some(BuildError::BadCopy),
+            number => Some(BuildError::Unlisted(number)),
+        }
+    }
+
+    /// The paper's number.
+    pub fn number(&self) -> u32 {
+        match *self {
+            BuildError::BadRules => 10,
+            BuildError::Collision => 11,
+            BuildError::NodesFull => 12,
+            BuildError::EdgesFull => 13,
+            BuildError::SixthReduce => 14,
+            BuildError::BadCopy => 16,
+            BuildError::Unlisted(number) => number,
+        }
+    }
+}
+
+impl fmt::Display for BuildError {
+    fn fmt(&self, f: &mut fmt::Formatter<'_>) -> fmt::Result {
+        let why = match self {
+            BuildError::BadRules => "the rules are bad",
+            BuildError::Collision => "two rules have bodies of which one begins the other",
+            BuildError::NodesFull => "the tree needs more nodes than there is room for",
+            BuildError::EdgesFull => "the tree needs more edges than there is room for",
+            BuildError::SixthReduce => "conversions put a sixth reduce on an edge",
+            BuildError::BadCopy => "a conversion would copy from or to a leaf, or a node to itself",
+            BuildError::Unlisted(_) => "the library gave a number that no build answers with",
+        };
+        write!(f, "build refused with {}: {why}", self.number())
+    }
+}
+
+impl Error for BuildError {}
+
+/// Why a statement was not parsed. Places count the statement's typecode as 0.
+#[derive(Clone, Copy, Debug, PartialEq, Eq, Hash)]
+pub enum ParseError {
+    /// 1: the statement has fewer than two tokens.
+    TooShort,
+    /// 2: no rule goes on at this token.
+    Unparseable {
+        /// The token that was looked at last.
+        place: usize,
+        /// The passes used, the refused one among them.
+        passes: u32,
+    },
+    /// 3: the statement ended where a rule wants more.
+    Unfinished {
+        /// The last token.
+        place: usize,
+        /// The passes used, the refused one among them.
+        passes: u32,
+    },
+    /// 4: what the walk came to is no well typed tree that spells the statement.
+    NotWellTyped {
+        /// The passes used, the refused one among them.
+        passes: u32,
+    },
+    /// 5: a further pass is needed and the allowance is used up.
+    PassesUsedUp {
+        /// The passes used: the allowance.
+        passes: u32,
+    },
+    /// 6: a frame is needed and the frame room is full.
+    FramesFull {
+        /// The passes used, the refused one among them.
+        passes: u32,
+    },
+    /// 7: a list entry is needed and the list room is full.
+    ListFull {
+        /// The passes used, the refused one among them.
+        passes: u32,
+    },
+    /// 8: the nodes or the edges are bad.
+    BadTables,
+    /// 9: the statement has more than [`MOST_TOKENS`](crate::limits::MOST_TOKENS) tokens.
+    TooLong,
+    /// 10: the rules are bad.
+    BadRules,
+    /// A number that no parse answers with. The library is proved not to; the type of a C function can't say that.
+    Unlisted(u32),
+}
+
+impl ParseError {
+    /// What an answer of [`crate::words::parse`] refuses; none if it is 0.
+    pub fn of(answer: Answer) -> Option<ParseError> {
+        let passes = answer.passes;
+        // no statement that is walked has more tokens than fit
+        let place = usize::try_from(answer.place).unwrap_or(usize::MAX);
+        match answer.number {
+            0 => None,
+            1 => Some(ParseError::TooShort),
+            2 => Some(ParseError::Unparseable { place, passes }),
+            3 => Some(ParseError::Unfinished { place, passes }),
+            4 => Some(ParseError::NotWellTyped { passes }),
+            5 => Some(ParseError::PassesUsedUp { passes }),
+            6 => Some(ParseError::FramesFull { passes }),
+            7 => Some(ParseError::ListFull { passes }),
+            8 => Some(ParseError::BadTables),
+            9 => Some(ParseError::TooLong),
+            10 => Some(ParseError::BadRules),
+            number => Some(ParseError::Unlisted(number)),
+        }
+    }
+
+    /// The paper's number.
+    pub fn number(&self) -> u32 {
+        match *self {
+            ParseError::TooShort => 1,
+            ParseError::Unparseable { .. } => 2,
+            ParseError::Unfinished { .. } => 3,
+            ParseError::NotWellTyped { .. } => 4,
+            ParseError::PassesUsedUp { .. } => 5,
+            ParseError::FramesFull { .. } => 6,
+            ParseError::ListFull { .. } => 7,
+            ParseError::BadTables => 8,
+            ParseError::TooLong => 9,
+            ParseError::BadRules => 10,
+            ParseError::Unlisted(number) => number,
+        }
+    }
+
+    /// The token that the refusal is about, if it is about one.
+    pub fn place(&self) -> Option<usize> {
+        match *self {
+            ParseError::Unparseable { place, .. } | ParseError::Unfinished { place, .. } => Some(place),
+            _ => None,
+        }
+    }
+
+    /// The passes used; 0 where the walk was not begun.
+    pub fn passes(&self) -> u32 {
+        match *self {
+            ParseError::Unparseable { passes, .. }
+            | ParseError::Unfinished { passes, .. }
+            | ParseError::NotWellTyped { passes }
+            | ParseError::PassesUsedUp { passes }
+            | ParseError::FramesFull { passes }
+            | ParseError::ListFull { passes } => passes,
+            _ => 0,
+        }
+    }
+}
+
+impl fmt::Display for ParseError {
+    fn fmt(&self, f: &mut fmt::Formatter<'_>) -> fmt::Result {
+        let why = match self {
+            ParseError::TooShort => "the statement has fewer than two tokens",
+            ParseError::Unparseable { .. } => "no rule goes on",
+            ParseError::Unfinished { .. } => "the statement ends where a rule wants more",
+            ParseError::NotWellTyped { .. } => "no well typed tree that spells the statement came out",
+            ParseError::PassesUsedUp { .. } => "the allowance of passes is used up",
+            ParseError::FramesFull { .. } => "the frame room is full",
+            ParseError::ListFull { .. } => "the list room is full",
+            ParseError::BadTables => "the node or edge table is bad",
+            ParseError::TooLong => "the statement has too many tokens",
+            ParseError::BadRules => "the rules are bad",
+            ParseError::Unlisted(_) => "the library gave a number that no parse answers with",
+        };
+        write!(f, "parse refused with {}: {why}", self.number())?;
+        match self.place() {
+            Some(place) => write!(f, ", at token {place}"),
+            None => Ok(()),
+        }
+    }
+}
+
+impl Error for ParseError {}
+
+/// Why the check alone said no.
+#[derive(Clone, Copy, Debug, PartialEq, Eq, Hash)]
+pub enum VerifyError {
+    /// 1: the statement has fewer than two tokens.
+    TooShort,
+    /// 4: the list is no well typed tree of the stated typecode that spells the statement.
+    NotWellTyped,
+    /// 7: the work slice is shorter than the list.
+    WorkTooShort,
+    /// 9: the statement has more than [`MOST_TOKENS`](crate::limits::MOST_TOKENS) tokens.
+    TooLong,
+    /// 10: the rules are bad.
+    BadRules,
+    /// A number that no check answers with. The library is proved not to; the type of a C function can't say that.
+    Unlisted(u32),
+}
+
+impl VerifyError {
+    /// What an answer of [`crate::words::verify`] refuses; none if it is 0.
+    pub fn of(answer: Answer) -> Option<VerifyError> {
+        match answer.number {
+            0 => None,
+            1 => Some(VerifyError::TooShort),
+            4 => Some(VerifyError::NotWellTyped),
+            7 => Some(VerifyError::WorkTooShort),
+            9 => Some(VerifyError::TooLong),
+            10 => Some(VerifyError::BadRules),
+            number => Some(VerifyError::Unlisted(number)),
+        }
+    }
+
+    /// The paper's number.
+    pub fn number(&self) -> u32 {
+        match *self {
+            VerifyError::TooShort => 1,
+            VerifyError::NotWellTyped => 4,
+            VerifyError::WorkTooShort => 7,
+            VerifyError::TooLong => 9,
+            VerifyError::BadRules => 10,
+            VerifyError::Unlisted(number) => number,
+        }
+    }
+}
+
+impl fmt::Display for VerifyError {
+    fn fmt(&self, f: &mut fmt::Formatter<'_>) -> fmt::Result {
+        let why = match self {
+            VerifyError::TooShort => "the statement has fewer than two tokens",
+            VerifyError::NotWellTyped => "the list is no well typed tree that spells the statement",
+            VerifyError::WorkTooShort => "the work slice is shorter than the list",
+            VerifyError::TooLong => "the statement has too many tokens",
+            VerifyError::BadRules => "the rules are bad",
+            VerifyError::Unlisted(_) => "the library gave a number that no check answers with",
+        };
+        write!(f, "check refused with {}: {why}", self.number())
+    }
+}
+
+impl Error for VerifyError {}

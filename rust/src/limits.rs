@@ -1,0 +1,25 @@
+//! The limits of the tables and of a statement. The library refuses what passes them, so nothing here has to be kept by a caller.
+
+/// The rules of a set.
+pub const MOST_RULES: usize = 2_048;
+
+/// The items of a rule's body.
+pub const MOST_ITEMS: usize = 32;
+
+/// The nodes of a tree.
+pub const MOST_NODES: usize = 8_192;
+
+/// The edges of a tree.
+pub const MOST_EDGES: usize = 16_384;
+
+/// The reduces of an edge.
+pub const MOST_REDUCES: usize = 5;
+
+/// The tokens of a statement, its typecode among them.
+pub const MOST_TOKENS: usize = 4_097;
+
+/// The words of an item: its kind and its symbol.
+pub const ITEM_WIDTH: usize = 2;
+
+/// The words of an edge.
+pub const ROW_WIDTH: usize = 16;

@@ -1,0 +1,96 @@
+//! The tree's two tables, as words and as what the words say.
+
+use crate::limits::{MOST_REDUCES, ROW_WIDTH};
+use crate::numbers::{Item, NodeNo, RuleNo};
+
+/// Nodes and edges of a tree, made by a build or brought from outside.
+#[derive(Clone, Debug, PartialEq, Eq)]
+pub struct Tables {
+    nodes: Vec<u32>,
+    edges: Vec<u32>,
+}
+
+/// What a node is.
+#[derive(Clone, Copy, Debug, PartialEq, Eq, Hash)]
+pub enum Node {
+    /// Edges may leave it.
+    Branch,
+    /// A rule's body ends here.
+    Leaf(RuleNo),
+}
+
+/// A rule that is reduced under the topmost `offset` trees.
+#[derive(Clone, Copy, Debug, PartialEq, Eq, Hash)]
+pub struct Reduce {
+    /// The rule.
+    pub rule: RuleNo,
+    /// How many trees stay on top of it.
+    pub offset: u32,
+}
+
+/// A row of the edge table.
+#[derive(Clone, Debug, PartialEq, Eq, Hash)]
+pub struct Edge {
+    /// The node that it leaves.
+    pub from: NodeNo,
+    /// What has to be met for it to be followed.
+    pub item: Item,
+    /// The node that it leads to.
+    pub to: NodeNo,
+    /// What is reduced when it is followed, in order.
+    pub reduces: Vec<Reduce>,
+}
+
+impl Tables {
+    /// Tables from outside, of any words. Whoever parses with them has them checked.
+    pub fn from_words(nodes: impl Into<Vec<u32>>, edges: impl Into<Vec<u32>>) -> Tables {
+        Tables {
+            nodes: nodes.into(),
+            edges: edges.into(),
+        }
+    }
+
+    /// The words of the nodes, one for each.
+    pub fn node_words(&self) -> &[u32] {
+        &self.nodes
+    }
+
+    /// The words of the edges, [`ROW_WIDTH`] for each.
+    pub fn edge_words(&self) -> &[u32] {
+        &self.edges
+    }
+
+    /// A node; none if there is no such node.
+    pub fn node(&self, node: NodeNo) -> Option<Node> {
+        match *self.nodes.get(usize::try_from(node.0).ok()?)? {
+            0 => Some(Node::Branch),
+            rule => Some(Node::Leaf(RuleNo(rule))),
+        }
+    }
+
+    /// The edges in row order, up to the first row whose words say none.
+    pub fn edges(&self) -> impl Iterator<Item = Edge> + '_ {
+        self.edges.chunks_exact(ROW_WIDTH).map_while(edge)
+    }
+}
+
+/// The edge of a row: from, kind, symbol, to, the count of reduces, then a rule and an offset for each.
+fn edge(row: &[u32]) -> Option<Edge> {
+    let &[from, kind, symbol, to, count, ref pairs @ ..] = row else {
+        return None;
+    };
+    let count = usize::try_from(count).ok().filter(|&count| count <= MOST_REDUCES)?;
+    Some(Edge {
+        from: NodeNo(from),
+        item: Item::from_words(kind, symbol)?,
+        to: NodeNo(to),
+        reduces: pairs
+            .chunks_exact(2)
+            .take(count)
+            .map(|pair| Reduce {
+                rule: RuleNo(pair[0]),
+                offset: pair[1],
+            })
+            .collect(),
+    })
+}

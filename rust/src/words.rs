@@ -1,0 +1,169 @@
+//! The four entry points as they are: slices of words in, numbers out.
+//!
+//! Nothing is asked of the words: any may stand in any slice. This module is the only one with unsafe code, and all that its calls owe the
+//! library is that the slices are there, which a Rust slice always is.
+
+/// What a parse or a check answers.
+#[repr(C)]
+#[derive(Clone, Copy, Debug, PartialEq, Eq, Hash)]
+pub struct Answer {
+    /// 0, or the number of the refusal.
+    pub number: u32,
+    /// The token that a refusal is about, the typecode being token 0; else 0.
+    pub place: u32,
+    /// How many words at the front of the list slice are the list; 0 for a refusal and for a check.
+    pub length: u32,
+    /// The passes used, a refused one among them; 0 where no walk was begun, and for a check.
+    pub passes: u32,
+}
+
+/// What a build answers.
+#[repr(C)]
+#[derive(Clone, Copy, Debug, PartialEq, Eq, Hash)]
+pub struct Built {
+    /// 0, or the number of the refusal.
+    pub number: u32,
+    /// How many words at the front of the node slice are nodes; 0 for a refusal.
+    pub nodes: u32,
+    /// How many rows of 16 words at the front of the edge slice are edges; 0 for a refusal.
+    pub edges: u32,
+}
+
+/// Where a rule's body stands in the rule slice; 0, 0 where there is no body.
+#[repr(C)]
+#[derive(Clone, Copy, Debug, PartialEq, Eq, Hash)]
+pub struct Stretch {
+    /// The word that it begins with.
+    pub start: u32,
+    /// How many words it has, two for each item.
+    pub length: u32,
+}
+
+mod c {
+    use super::{Answer, Built, Stretch};
+
+    extern "C" {
+        pub fn jiehkavon_body(provable: u32, logic: u32, rules: *const u32, rules_length: usize, rule: u32) -> Stretch;
+        pub fn jiehkavon_build(
+            provable: u32,
+            logic: u32,
+            rules: *const u32,
+            rules_length: usize,
+            nodes: *mut u32,
+            nodes_length: usize,
+            edges: *mut u32,
+            edges_length: usize,
+        ) -> Built;
+        pub fn jiehkavon_parse(
+            provable: u32,
+            logic: u32,
+            rules: *const u32,
+            rules_length: usize,
+            nodes: *const u32,
+            nodes_length: usize,
+            edges: *const u32,
+            edges_length: usize,
+            tokens: *const u32,
+            tokens_length: usize,
+            allowance: u32,
+            frames: *mut u32,
+            frames_length: usize,
+            list: *mut u32,
+            list_length: usize,
+            work: *mut u32,
+            work_length: usize,
+        ) -> Answer;
+        pub fn jiehkavon_verify(
+            provable: u32,
+            logic: u32,
+            rules: *const u32,
+            rules_length: usize,
+            tokens: *const u32,
+            tokens_length: usize,
+            list: *const u32,
+            list_length: usize,
+            work: *mut u32,
+            work_length: usize,
+        ) -> Answer;
+    }
+}
+
+/// The body of rule `rule`, as a stretch of `rules`.
+pub fn body(provable: u32, logic: u32, rules: &[u32], rule: u32) -> Stretch {
+    // SAFETY: the slice is there for the call, and nobody writes it.
+    unsafe { c::jiehkavon_body(provable, logic, rules.as_ptr(), rules.len(), rule) }
+}
+
+/// The tree of the rules, in two slices of any length and content.
+pub fn build(provable: u32, logic: u32, rules: &[u32], nodes: &mut [u32], edges: &mut [u32]) -> Built {
+    // SAFETY: the slices are there for the call, and the two lent for writing are apart from each other and from the rules.
+    unsafe {
+        c::jiehkavon_build(
+            provable,
+            logic,
+            rules.as_ptr(),
+            rules.len(),
+            nodes.as_mut_ptr(),
+            nodes.len(),
+            edges.as_mut_ptr(),
+            edges.len(),
+        )
+    }
+}
+
+/// The statement's list of rules, in postfix order, at the front of `list`; or a refusal.
+#[allow(clippy::too_many_arguments)]
+pub fn parse(
+    provable: u32,
+    logic: u32,
+    rules: &[u32],
+    nodes: &[u32],
+    edges: &[u32],
+    tokens: &[u32],
+    allowance: u32,
+    frames: &mut [u32],
+    list: &mut [u32],
+    work: &mut [u32],
+) -> Answer {
+    // SAFETY: the slices are there for the call, and those lent for writing are apart from each other and from all that is read.
+    unsafe {
+        c::jiehkavon_parse(
+            provable,
+            logic,
+            rules.as_ptr(),
+            rules.len(),
+            nodes.as_ptr(),
+            nodes.len(),
+            edges.as_ptr(),
+            edges.len(),
+            tokens.as_ptr(),
+            tokens.len(),
+            allowance,
+            frames.as_mut_ptr(),
+            frames.len(),
+            list.as_mut_ptr(),
+            list.len(),
+            work.as_mut_ptr(),
+            work.len(),
+        )
+    }
+}
+
+/// The check alone: whether `list` is a well typed tree of the stated typecode that spells `tokens`.
+pub fn verify(provable: u32, logic: u32, rules: &[u32], tokens: &[u32], list: &[u32], work: &mut [u32]) -> Answer {
+    // SAFETY: the slices are there for the call, and the one lent for writing is apart from all that is read.
+    unsafe {
+        c::jiehkavon_verify(
+            provable,
+            logic,
+            rules.as_ptr(),
+            rules.len(),
+            tokens.as_ptr(),
+            tokens.len(),
+            list.as_ptr(),
+            list.len(),
+            work.as_mut_ptr(),
+            work.len(),
+        )
+    }
+}

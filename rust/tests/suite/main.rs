@@ -1,0 +1,11 @@
+//! The wrapper and the library below it, by running them.
+
+mod entry;
+mod layout;
+mod refusals;
+mod room;
+mod rules;
+mod sets;
+mod sheet;
+mod tables;
+mod trees;

@@ -1,0 +1,69 @@
+//! Formulas as trees, and back to tokens.
+
+use jiehkavon::{Formula, RuleNo, Subtree, Symbol, VerifyError};
+
+use crate::sets::{c, grammar, prefixes, s, set_s, statement, symbol, TEN_PASSES};
+
+fn places(subtree: Subtree<'_>) -> Vec<usize> {
+    subtree.children().map(|child| child.place()).collect()
+}
+
+fn words(tokens: &[Symbol]) -> Vec<u32> {
+    tokens.iter().map(|token| token.word()).collect()
+}
+
+#[test]
+fn children_of_each_entry() {
+    let rules = set_s();
+    let formula = Formula::from_words([4, 5, 3, 8]);
+    let tree = formula.tree(&rules).expect("a tree");
+    assert_eq!(
+        tree.subtrees().map(places).collect::<Vec<_>>(),
+        [vec![], vec![0], vec![], vec![1, 2]]
+    );
+    assert_eq!(tree.subtrees().map(|part| part.rule()).collect::<Formula>(), formula);
+    let root = tree.root();
+    assert_eq!((root.place(), root.rule(), root.result()), (3, RuleNo(8), symbol(2)));
+    assert_eq!(root.items(), [s(3), c(8), s(3)]);
+    assert_eq!(
+        root.children().map(|child| child.result()).collect::<Vec<_>>(),
+        [symbol(3), symbol(3)]
+    );
+}
+
+#[test]
+fn tokens_of_each_part() {
+    let rules = set_s();
+    let tree = Formula::from_words([1, 2, 7, 6]).tree(&rules).expect("a tree");
+    let parts: Vec<Vec<u32>> = tree.subtrees().map(|part| words(&part.tokens())).collect();
+    assert_eq!(parts, [vec![10], vec![11], vec![5, 10, 7, 11, 6], vec![14, 5, 10, 7, 11, 6]]);
+}
+
+#[test]
+fn parsed_formulas_spell_their_statements() {
+    let grammar = grammar(set_s());
+    let rows: [&[u32]; 4] = [&TEN_PASSES, &[1, 13, 8, 13], &[3, 13], &prefixes(4_095)];
+    for tokens in rows {
+        let formula = grammar.parse(&statement(tokens)).expect("a formula");
+        let tree = formula.tree(grammar.rules()).expect("a tree");
+        assert_eq!(words(&tree.root().tokens()), tokens[1..]);
+    }
+}
+
+#[test]
+fn lists_that_are_no_tree() {
+    let rules = set_s();
+    let wrong: [&[u32]; 6] = [&[], &[0], &[10], &[1, 7], &[1, 2], &[1, 6, 2]];
+    for list in wrong {
+        assert!(Formula::from_words(list).tree(&rules).is_none(), "{list:?}");
+    }
+}
+
+#[test]
+fn an_ill_typed_tree_is_a_tree_that_the_check_refuses() {
+    let grammar = grammar(set_s());
+    let formula = Formula::from_words([3, 6]);
+    let tree = formula.tree(grammar.rules()).expect("a tree");
+    assert_eq!(words(&tree.root().tokens()), [14, 12]);
+    assert_eq!(grammar.verify(&statement(&[2, 14, 12]), &formula), Err(VerifyError::NotWellTyped));
+}
