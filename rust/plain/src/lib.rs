@@ -1,0 +1,24 @@
+//! The scope paper in ordinary Rust: vectors, maps, allocation where it is convenient.
+//!
+//! It shares no code with the proved library and was written from the paper alone, so that an answer on which both agree was reached twice.
+//! The modules are the paper's rooms, leaves first; [`words`] has the four entry points over slices of words, with the library's signatures.
+//! [`Grammar`] is what a caller keeps who parses many statements over the same tables.
+
+mod check;
+mod forest;
+mod grammar;
+mod grow;
+mod numbers;
+mod rows;
+mod rules;
+mod walk;
+pub mod words;
+
+pub use check::check;
+pub use grammar::Grammar;
+pub use grow::{grow, Room, Tree};
+pub use numbers::{NodeNo, Refusal, RuleNo, Symbol};
+pub use rows::{Edge, Node, Reduce, Row, Tables};
+pub use rules::{Item, Rule, Rules, Typecodes};
+pub use walk::{Rooms, Walk, Walked};
+pub use words::{body, build, parse, verify, Answer, Built, Stretch};

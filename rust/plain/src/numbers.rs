@@ -1,0 +1,104 @@
+//! The kinds of numbers, the limits, and the refusals with their numbers and places.
+
+pub const SYMBOL_LIMIT: u32 = 65_535;
+pub const RULE_LIMIT: usize = 2_048;
+pub const ITEM_LIMIT: u32 = 32;
+pub const NODE_LIMIT: usize = 8_192;
+pub const EDGE_LIMIT: usize = 16_384;
+pub const REDUCE_LIMIT: usize = 5;
+pub const OFFSET_LIMIT: u32 = 255;
+pub const TOKEN_LIMIT: usize = 4_097;
+
+/// A constant or a typecode, within the range that tables allow.
+#[derive(Clone, Copy, Debug, PartialEq, Eq, Hash)]
+pub struct Symbol(u32);
+
+impl Symbol {
+    pub fn read(word: u32) -> Option<Symbol> {
+        (1..=SYMBOL_LIMIT).contains(&word).then_some(Symbol(word))
+    }
+
+    pub fn word(self) -> u32 {
+        self.0
+    }
+}
+
+/// A rule that exists, counted from 1. Only [`crate::Rules`] makes one.
+#[derive(Clone, Copy, Debug, PartialEq, Eq, Hash)]
+pub struct RuleNo(pub(crate) u32);
+
+impl RuleNo {
+    pub fn word(self) -> u32 {
+        self.0
+    }
+
+    pub(crate) fn index(self) -> usize {
+        self.0 as usize - 1
+    }
+}
+
+/// A node that exists, counted from 0.
+#[derive(Clone, Copy, Debug, PartialEq, Eq, Hash)]
+pub struct NodeNo(pub(crate) u32);
+
+/// Node 0.
+pub const ROOT: NodeNo = NodeNo(0);
+
+impl NodeNo {
+    pub fn word(self) -> u32 {
+        self.0
+    }
+
+    pub(crate) fn index(self) -> usize {
+        self.0 as usize
+    }
+}
+
+/// Why an entry point refused. Places count the typecode token as 0.
+#[derive(Clone, Copy, Debug, PartialEq, Eq, Hash)]
+pub enum Refusal {
+    TooFewTokens,
+    Unparseable(usize),
+    TokensEnded(usize),
+    NoTree,
+    PassesUsedUp,
+    FramesFull,
+    ListFull,
+    BadTables,
+    TooManyTokens,
+    BadRules,
+    BodiesCollide,
+    NodesFull,
+    EdgesFull,
+    SixthReduce,
+    BadCopy,
+}
+
+impl Refusal {
+    pub fn number(self) -> u32 {
+        match self {
+            Refusal::TooFewTokens => 1,
+            Refusal::Unparseable(_) => 2,
+            Refusal::TokensEnded(_) => 3,
+            Refusal::NoTree => 4,
+            Refusal::PassesUsedUp => 5,
+            Refusal::FramesFull => 6,
+            Refusal::ListFull => 7,
+            Refusal::BadTables => 8,
+            Refusal::TooManyTokens => 9,
+            Refusal::BadRules => 10,
+            Refusal::BodiesCollide => 11,
+            Refusal::NodesFull => 12,
+            Refusal::EdgesFull => 13,
+            Refusal::SixthReduce => 14,
+            Refusal::BadCopy => 16,
+        }
+    }
+
+    pub fn place(self) -> u32 {
+        match self {
+            Refusal::Unparseable(place) | Refusal::TokensEnded(place) => place as u32,
+            _ => 0,
+        }
+    }
+}

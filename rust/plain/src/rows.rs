@@ -1,0 +1,147 @@
+//! Node and edge rows, look-up, the table check, and reduce lists.
+
+use std::collections::HashMap;
+
+use crate::numbers::{NodeNo, Refusal, RuleNo, Symbol, EDGE_LIMIT, NODE_LIMIT, OFFSET_LIMIT, REDUCE_LIMIT, ROOT};
+use crate::rules::{Item, Rules};
+
+/// Words in an edge row.
+pub const ROW: usize = 16;
+/// Where in a row the reduce pairs begin.
+const PAIRS: usize = 5;
+/// The last word of a row, always 0.
+const LAST: usize = ROW - 1;
+
+#[derive(Clone, Copy, Debug, PartialEq, Eq)]
+pub struct Reduce {
+    pub rule: RuleNo,
+    pub offset: u32,
+}
+
+impl Reduce {
+    fn read(pair: &[u32], rules: &Rules) -> Option<Reduce> {
+        let rule = rules.named(pair[0])?;
+        (pair[1] <= OFFSET_LIMIT).then_some(Reduce { rule, offset: pair[1] })
+    }
+}
+
+/// The list with one more reduce in front; 14 if it was full.
+pub fn with_reduce(reduces: &[Reduce], first: Reduce) -> Result<Vec<Reduce>, Refusal> {
+    if reduces.len() == REDUCE_LIMIT {
+        return Err(Refusal::SixthReduce);
+    }
+    Ok([&[first], reduces].concat())
+}
+
+/// Where an edge leads and what is reduced on the way.
+#[derive(Clone, Debug, PartialEq, Eq)]
+pub struct Edge {
+    pub to: NodeNo,
+    pub reduces: Vec<Reduce>,
+}
+
+/// An edge with its key.
+#[derive(Clone, Debug, PartialEq, Eq)]
+pub struct Row {
+    pub from: NodeNo,
+    pub item: Item,
+    pub edge: Edge,
+}
+
+impl Row {
+    /// The row that sixteen words write, if each number in it is within its own bounds and both ends are among `nodes` nodes.
+    fn read(words: &[u32; ROW], rules: &Rules, nodes: usize) -> Option<Row> {
+        let node = |word: u32| ((word as usize) < nodes).then_some(NodeNo(word));
+        let count = words[4] as usize;
+        if count > REDUCE_LIMIT {
+            return None;
+        }
+        let (used, unused) = words[PAIRS..LAST].split_at(2 * count);
+        if words[LAST] != 0 || unused.iter().any(|&word| word != 0) {
+            return None;
+        }
+        let reduces = used.chunks_exact(2).map(|pair| Reduce::read(pair, rules)).collect::<Option<_>>()?;
+        Some(Row {
+            from: node(words[0])?,
+            item: Item::read(words[1], words[2])?,
+            edge: Edge {
+                to: node(words[3])?,
+                reduces,
+            },
+        })
+    }
+
+    pub fn words(&self) -> [u32; ROW] {
+        let mut words = [0; ROW];
+        let [kind, symbol] = self.item.words();
+        words[..PAIRS].copy_from_slice(&[self.from.word(), kind, symbol, self.edge.to.word(), self.edge.reduces.len() as u32]);
+        for (pair, reduce) in words[PAIRS..LAST].chunks_exact_mut(2).zip(&self.edge.reduces) {
+            pair.copy_from_slice(&[reduce.rule.word(), reduce.offset]);
+        }
+        words
+    }
+}
+
+#[derive(Clone, Debug, PartialEq, Eq)]
+pub enum Node {
+    Branch(HashMap<Item, Edge>),
+    Leaf(RuleNo),
+}
+
+/// Tables that passed the table check.
+#[derive(Clone, Debug, PartialEq, Eq)]
+pub struct Tables {
+    nodes: Vec<Node>,
+}
+
+impl Tables {
+    /// Nothing where the paper says 8.
+    pub fn read(rules: &Rules, nodes: &[u32], edges: &[u32]) -> Option<Tables> {
+        let rows = edges.chunks_exact(ROW);
+        if nodes.len() > NODE_LIMIT || rows.len() > EDGE_LIMIT || !rows.remainder().is_empty() {
+            return None;
+        }
+        let mut tables = Tables {
+            nodes: nodes.iter().map(|&word| read_node(word, rules)).collect::<Option<_>>()?,
+        };
+        if !matches!(tables.nodes.first(), Some(Node::Branch(_))) {
+            return None;
+        }
+        for words in rows {
+            tables.add(Row::read(words.try_into().ok()?, rules, nodes.len())?)?;
+        }
+        Some(tables)
+    }
+
+    /// Of two rows with one key the first stays, since a look-up takes it.
+    fn add(&mut self, row: Row) -> Option<()> {
+        let to_leaf = matches!(self.nodes[row.edge.to.index()], Node::Leaf(_));
+        if row.edge.to == ROOT || (row.from == ROOT && matches!(row.item, Item::Slot(_)) && to_leaf) {
+            return None;
+        }
+        match &mut self.nodes[row.from.index()] {
+            Node::Branch(edges) => edges.entry(row.item).or_insert(row.edge),
+            Node::Leaf(_) => return None,
+        };
+        Some(())
+    }
+
+    pub fn node(&self, node: NodeNo) -> &Node {
+        &self.nodes[node.index()]
+    }
+
+    /// The edge by which a tree of this typecode leaves the node.
+    pub fn variable_edge(&self, node: NodeNo, typecode: Symbol) -> Option<&Edge> {
+        match self.node(node) {
+            Node::Branch(edges) => edges.get(&Item::Slot(typecode)),
+            Node::Leaf(_) => None,
+        }
+    }
+}
+
+fn read_node(word: u32, rules: &Rules) -> Option<Node> {
+    if word == 0 {
+        return Some(Node::Branch(HashMap::new()));
+    }
+    rules.named(word).map(Node::Leaf)
+}

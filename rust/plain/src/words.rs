@@ -1,0 +1,132 @@
+//! The four entry points: slices of words in, numbers out. Any words may stand in any slice.
+
+use crate::check;
+use crate::grammar::Grammar;
+use crate::grow::{grow, Room, Tree};
+use crate::numbers::{Refusal, RuleNo, EDGE_LIMIT, NODE_LIMIT};
+use crate::rows::ROW;
+use crate::rules::Rules;
+use crate::walk::{Rooms, Walked};
+
+/// What a parse or a check answers.
+#[derive(Clone, Copy, Debug, PartialEq, Eq, Hash)]
+pub struct Answer {
+    pub number: u32,
+    pub place: u32,
+    pub length: u32,
+    pub passes: u32,
+}
+
+impl Answer {
+    fn of(result: Result<usize, Refusal>, passes: u32) -> Answer {
+        let (number, place, length) = match result {
+            Ok(length) => (0, 0, length as u32),
+            Err(refusal) => (refusal.number(), refusal.place(), 0),
+        };
+        Answer {
+            number,
+            place,
+            length,
+            passes,
+        }
+    }
+}
+
+/// What a build answers.
+#[derive(Clone, Copy, Debug, PartialEq, Eq, Hash)]
+pub struct Built {
+    pub number: u32,
+    pub nodes: u32,
+    pub edges: u32,
+}
+
+/// Where a rule's body stands in the rule slice, in words; 0, 0 where there is no body.
+#[derive(Clone, Copy, Debug, PartialEq, Eq, Hash)]
+pub struct Stretch {
+    pub start: u32,
+    pub length: u32,
+}
+
+/// The body of rule `rule`, as a stretch of `rules`.
+pub fn body(provable: u32, logic: u32, rules: &[u32], rule: u32) -> Stretch {
+    let read = Rules::read(provable, logic, rules);
+    let found = read.as_ref().and_then(|rules| rules.named(rule).map(|rule| rules.rule(rule)));
+    found.map_or(Stretch { start: 0, length: 0 }, |rule| Stretch {
+        start: rule.start as u32,
+        length: rule.width() as u32,
+    })
+}
+
+/// The tree of the rules, in two slices of any length and content.
+pub fn build(provable: u32, logic: u32, rules: &[u32], nodes: &mut [u32], edges: &mut [u32]) -> Built {
+    nodes.fill(0);
+    edges.fill(0);
+    let room = Room {
+        nodes: nodes.len().min(NODE_LIMIT),
+        edges: (edges.len() / ROW).min(EDGE_LIMIT),
+    };
+    let read = Rules::read(provable, logic, rules).ok_or(Refusal::BadRules);
+    match read.and_then(|rules| grow(&rules, room)) {
+        Ok(tree) => write(&tree, nodes, edges),
+        Err(refusal) => Built {
+            number: refusal.number(),
+            nodes: 0,
+            edges: 0,
+        },
+    }
+}
+
+fn write(tree: &Tree, nodes: &mut [u32], edges: &mut [u32]) -> Built {
+    for (word, leaf) in nodes.iter_mut().zip(&tree.nodes) {
+        *word = leaf.map_or(0, RuleNo::word);
+    }
+    for (words, row) in edges.chunks_exact_mut(ROW).zip(&tree.rows) {
+        words.copy_from_slice(&row.words());
+    }
+    Built {
+        number: 0,
+        nodes: tree.nodes.len() as u32,
+        edges: tree.rows.len() as u32,
+    }
+}
+
+/// The statement's list of rules, in postfix order, at the front of `list`; or a refusal.
+#[allow(clippy::too_many_arguments)]
+pub fn parse(
+    provable: u32,
+    logic: u32,
+    rules: &[u32],
+    nodes: &[u32],
+    edges: &[u32],
+    tokens: &[u32],
+    allowance: u32,
+    frames: &mut [u32],
+    list: &mut [u32],
+    work: &mut [u32],
+) -> Answer {
+    frames.fill(0);
+    list.fill(0);
+    work.fill(0);
+    let rooms = Rooms {
+        allowance,
+        frames: frames.len(),
+        list: list.len().min(work.len()),
+    };
+    let walked = match Grammar::read(provable, logic, rules, nodes, edges) {
+        Ok(grammar) => grammar.parse(tokens, rooms),
+        Err(refusal) => Walked::before_any_pass(refusal),
+    };
+    let length = walked.list.map(|found| {
+        list[..found.len()].copy_from_slice(&found);
+        found.len()
+    });
+    Answer::of(length, walked.passes)
+}
+
+/// The check alone: whether `list` is a well typed tree of the stated typecode that spells `tokens`.
+pub fn verify(provable: u32, logic: u32, rules: &[u32], tokens: &[u32], list: &[u32], work: &mut [u32]) -> Answer {
+    work.fill(0);
+    let read = Rules::read(provable, logic, rules).ok_or(Refusal::BadRules);
+    let result = read.and_then(|rules| check::verify(&rules, tokens, list, work.len()));
+    Answer::of(result.map(|()| 0), 0)
+}

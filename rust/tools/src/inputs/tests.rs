@@ -1,0 +1,147 @@
+//! The generators make what they say.
+
+use super::limits;
+use super::rules::{rule_set, RuleSet};
+use super::sentences::{guided, Grower};
+use super::tables::{ample_room, built, hand_made, piled, rearranged, with_tables, ROW};
+use super::Grammar;
+use crate::random::Random;
+
+const SETS: usize = 300;
+
+fn sets(seed: u64) -> Vec<RuleSet> {
+    let mut random = Random::new(seed);
+    let mut set = |size| rule_set(&mut random, size % 30);
+    (0..SETS).map(&mut set).collect()
+}
+
+fn build(set: &RuleSet, (nodes, edges): (usize, usize)) -> (u32, u32, u32) {
+    let (mut nodes, mut edges) = (vec![0; nodes], vec![0; ROW * edges]);
+    let built = plain::build(set.provable, set.logic, &set.words(), &mut nodes, &mut edges);
+    (built.number, built.nodes, built.edges)
+}
+
+fn number(grammar: &Grammar, tokens: &[u32]) -> u32 {
+    let room = 24 * tokens.len();
+    let (mut frames, mut list, mut work) = (vec![0; room], vec![0; room], vec![0; room]);
+    let Grammar { rules, nodes, edges, .. } = grammar;
+    let (provable, logic) = (grammar.provable, grammar.logic);
+    plain::parse(
+        provable,
+        logic,
+        rules,
+        nodes,
+        edges,
+        tokens,
+        u32::MAX,
+        &mut frames,
+        &mut list,
+        &mut work,
+    )
+    .number
+}
+
+fn verify(set: &RuleSet, tokens: &[u32], list: &[u32]) -> u32 {
+    plain::verify(set.provable, set.logic, &set.words(), tokens, list, &mut vec![0; list.len()]).number
+}
+
+#[test]
+fn rule_sets_are_good_rules_and_mostly_build() {
+    let numbers: Vec<u32> = sets(1).iter().map(|set| build(set, ample_room(set)).0).collect();
+    assert!(!numbers.contains(&10));
+    let count = |wanted: u32| numbers.iter().filter(|&&number| number == wanted).count();
+    assert!(count(0) > SETS / 3 && count(11) > 0 && count(14) > 0 && count(16) > 0);
+}
+
+#[test]
+fn grown_statements_are_spelled_by_their_lists() {
+    let mut random = Random::new(2);
+    let mut grown = 0;
+    for set in sets(2) {
+        if let Some(sentence) = Grower::new(&set).sentence(&mut random, set.logic, 20) {
+            assert_eq!(verify(&set, &sentence.tokens, &sentence.list), 0, "{set:?} {sentence:?}");
+            grown += 1;
+        }
+    }
+    assert!(grown > SETS / 2);
+}
+
+#[test]
+fn many_grown_statements_parse() {
+    let mut random = Random::new(3);
+    let sets = sets(3);
+    let accepted = |set: &&RuleSet| {
+        let sentence = Grower::new(set).sentence(&mut random, set.logic, 20);
+        built(set)
+            .zip(sentence)
+            .is_some_and(|(grammar, sentence)| number(&grammar, &sentence.tokens) == 0)
+    };
+    assert!(sets.iter().filter(accepted).count() > SETS / 5);
+}
+
+#[test]
+fn made_tables_pass_the_table_check() {
+    let mut random = Random::new(4);
+    for set in sets(4) {
+        assert_eq!(number(&hand_made(&mut random, &set), &[1]), 1);
+        if let Some(grammar) = built(&set) {
+            assert_eq!(number(&rearranged(&mut random, &set, &grammar), &[1]), 1);
+        }
+    }
+}
+
+#[test]
+fn piled_trees_are_mostly_accepted() {
+    let mut random = Random::new(5);
+    let mut accepted = || piled(&mut random);
+    let count = (0..50)
+        .map(|_| accepted())
+        .filter(|(grammar, tokens)| number(grammar, tokens) == 0)
+        .count();
+    assert!(count > 35, "{count}");
+}
+
+#[test]
+fn guided_tokens_are_those_asked_for() {
+    let mut random = Random::new(6);
+    let answer = |tokens: &[u32]| match tokens.iter().skip(1).position(|&token| token != 7) {
+        Some(place) => (2, place as u32 + 1),
+        None => (3, 0),
+    };
+    assert_eq!(guided(&mut random, 1, &[6, 7], 9, answer)[..6], [1, 7, 7, 7, 7, 7]);
+}
+
+#[test]
+fn limits_are_exact() {
+    let build = |set: &RuleSet| build(set, (8_300, 16_500));
+    assert_eq!([2_048, 2_049].map(|count| build(&limits::many_rules(count)).0), [0, 10]);
+    assert_eq!(build(&limits::tree_of_nodes(8_192)), (0, 8_192, 8_191));
+    assert_eq!(build(&limits::tree_of_nodes(8_193)).0, 12);
+    assert_eq!(build(&limits::tree_of_edges(1)).2, 16_384);
+    assert_eq!(build(&limits::tree_of_edges(2)).0, 13);
+}
+
+#[test]
+fn tables_at_their_limits_are_walked() {
+    for tokens in limits::ACCEPTED {
+        assert_eq!([8_192, 8_193].map(|count| number(&limits::many_nodes(count), tokens)), [0, 8]);
+        assert_eq!([16_384, 16_385].map(|count| number(&limits::many_edges(count), tokens)), [0, 8]);
+    }
+}
+
+#[test]
+fn longest_statements_are_walked() {
+    for (count, numbers) in [(4_097, [0, 0, 2]), (4_098, [9, 9, 9])] {
+        let (set, statements) = limits::many_tokens(count);
+        let grammar = built(&set).expect("the set builds");
+        let answers: Vec<u32> = statements.iter().map(|tokens| number(&grammar, tokens)).collect();
+        assert_eq!(answers, numbers);
+    }
+}
+
+#[test]
+fn long_lists_are_trees() {
+    let (set, tokens, list) = limits::long_list(20_000);
+    assert_eq!(verify(&set, &tokens, &list), 0);
+    assert_eq!(number(&with_tables(&set, vec![0], Vec::new()), &tokens), 2);
+}

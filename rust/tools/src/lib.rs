@@ -1,0 +1,8 @@
+//! What the comparisons, the reader and the benchmark share.
+pub mod grown;
+pub mod held;
+pub mod inputs;
+pub mod metamath;
+pub mod oracle;
+pub mod random;
+pub mod vectors;
