@@ -1,0 +1,576 @@
+//! Times build, parse and verify: the proved library, the plain Rust with the same entry points, the plain Rust with rules and tables read
+//! once, and, with `--oracle [NAME=]COMMAND`, the published Rust behind its line driver. A benchmark and no test: it prints tables of
+//! medians and judges nothing, save that library and plain Rust must give the same answers. `--database FILE` names a Metamath database to
+//! take statements from.
+
+use std::fmt::Write as _;
+use std::fs::File;
+use std::hint::black_box;
+use std::process::{Command, ExitCode, Stdio};
+use tools::metamath::Database;
+
+const REPETITIONS: usize = 7;
+/// A repetition goes on for about so many nanoseconds, or for one call if that takes longer.
+const LEAST: f64 = 4e7;
+/// Of a database's statements one in so many is used.
+const STEP: usize = 100;
+const NODES: usize = 8192;
+const EDGE_WORDS: usize = 16 * 16384;
+
+// ---- what is timed
+
+type Build = fn(u32, u32, &[u32], &mut [u32], &mut [u32]) -> [u32; 3];
+#[allow(clippy::type_complexity)]
+type Parse = fn(u32, u32, &[u32], &[u32], &[u32], &[u32], u32, &mut [u32], &mut [u32], &mut [u32]) -> [u32; 4];
+type Verify = fn(u32, u32, &[u32], &[u32], &[u32], &mut [u32]) -> u32;
+
+/// Four entry points over words.
+struct Core {
+    name: &'static str,
+    body: fn(u32, u32, &[u32], u32) -> u32,
+    build: Build,
+    parse: Parse,
+    verify: Verify,
+}
+
+/// Both crates have functions of the same names, but each its own types for answers.
+macro_rules! core {
+    ($name:literal, $of:path) => {{
+        use $of as of;
+        Core {
+            name: $name,
+            body: |p, l, r, n| of::body(p, l, r, n).length,
+            build: |p, l, r, n, e| {
+                let b = of::build(p, l, r, n, e);
+                [b.number, b.nodes, b.edges]
+            },
+            parse: |p, l, r, n, e, t, a, f, o, w| {
+                let b = of::parse(p, l, r, n, e, t, a, f, o, w);
+                [b.number, b.place, b.length, b.passes]
+            },
+            verify: |p, l, r, t, o, w| of::verify(p, l, r, t, o, w).number,
+        }
+    }};
+}
+
+/// Rules with their tables, and statements to parse.
+struct Case {
+    provable: u32,
+    logic: u32,
+    rules: Vec<u32>,
+    nodes: Vec<u32>,
+    edges: Vec<u32>,
+    statements: Vec<Vec<u32>>,
+}
+
+impl Case {
+    fn new(provable: u32, logic: u32, rules: Vec<u32>, statements: Vec<Vec<u32>>) -> Self {
+        let (mut nodes, mut edges) = (vec![0; NODES], vec![0; EDGE_WORDS]);
+        let built = jiehkavon::words::build(provable, logic, &rules, &mut nodes, &mut edges);
+        assert_eq!(built.number, 0, "the rules build");
+        nodes.truncate(built.nodes as usize);
+        edges.truncate(16 * built.edges as usize);
+        Case {
+            provable,
+            logic,
+            rules,
+            nodes,
+            edges,
+            statements,
+        }
+    }
+
+    fn longest(&self) -> usize {
+        self.statements.iter().map(Vec::len).max().unwrap_or(0)
+    }
+
+    /// Where each rule starts.
+    fn starts(&self) -> impl Iterator<Item = usize> + '_ {
+        let after = |at: &usize| self.rules.get(at + 1).map(|length| at + 2 + 2 * *length as usize);
+        std::iter::successors(Some(0), after).take_while(|&at| at < self.rules.len())
+    }
+
+    /// The lines that give the published Rust these rules, up to its build.
+    fn lines(&self) -> String {
+        let mut lines = format!("set {} {}\n", self.provable, self.logic);
+        for at in self.starts() {
+            let words = &self.rules[at..at + 2 + 2 * self.rules[at + 1] as usize];
+            lines += &line("rule", words);
+        }
+        lines + "conv\nbuild\n"
+    }
+
+    fn parse_lines(&self) -> String {
+        self.statements.iter().map(|tokens| line("parse", tokens)).collect()
+    }
+}
+
+fn line(verb: &str, words: &[u32]) -> String {
+    let mut line = verb.to_owned();
+    words.iter().for_each(|word| write!(line, " {word}").expect("a string takes it"));
+    line + "\n"
+}
+
+// ---- how it is timed
+
+fn median(mut values: Vec<f64>) -> f64 {
+    values.sort_by(f64::total_cmp);
+    values[values.len() / 2]
+}
+
+/// Nanoseconds that this process has had a processor, so that other work on the machine doesn't count.
+fn now() -> f64 {
+    #[repr(C)]
+    struct Time {
+        seconds: i64,
+        nanoseconds: i64,
+    }
+    extern "C" {
+        fn clock_gettime(clock: i32, time: *mut Time) -> i32;
+    }
+    const OF_PROCESS: i32 = 2;
+    let mut time = Time {
+        seconds: 0,
+        nanoseconds: 0,
+    };
+    // SAFETY: Linux's C library, which the standard library links, writes one such struct.
+    let fault = unsafe { clock_gettime(OF_PROCESS, &mut time) };
+    assert_eq!(fault, 0, "Linux has that clock");
+    1e9 * time.seconds as f64 + time.nanoseconds as f64
+}
+
+/// Nanoseconds of one call: the median of several repetitions, each as many calls as fill its time.
+fn time(mut call: impl FnMut()) -> f64 {
+    call(); // the first is slower
+    let start = now();
+    call();
+    let calls = (LEAST / (now() - start)) as u32 + 1;
+    let repetition = |_| {
+        let start = now();
+        (0..calls).for_each(|_| call());
+        (now() - start) / f64::from(calls)
+    };
+    median((0..REPETITIONS).map(repetition).collect())
+}
+
+/// What each statement came to: the answer, and the list that came with it.
+type Outcomes = Vec<([u32; 4], Vec<u32>)>;
+
+/// The statements that were accepted, with their lists.
+fn accepted<'a>(case: &'a Case, outcomes: &'a Outcomes) -> Vec<(&'a [u32], &'a [u32])> {
+    let both = case.statements.iter().zip(outcomes);
+    let zero = both.filter(|(_, (answer, _))| answer[0] == 0);
+    zero.map(|(tokens, (_, list))| (&tokens[..], &list[..])).collect()
+}
+
+/// Frames, list and work, long enough for each statement.
+struct Room([Vec<u32>; 3]);
+
+impl Room {
+    fn new(case: &Case) -> Self {
+        let n = case.longest();
+        Room([vec![0; n], vec![0; 17 * n], vec![0; 17 * n]])
+    }
+
+    /// A parse of n tokens after the typecode, with n frames and 17n list entries, and so many passes for each token.
+    fn parse<'a>(&'a mut self, core: &Core, case: &Case, tokens: &[u32], passes: u32) -> ([u32; 4], &'a [u32]) {
+        let n = tokens.len() - 1;
+        let [frames, list, work] = &mut self.0;
+        let (f, o, w) = (&mut frames[..n], &mut list[..17 * n], &mut work[..17 * n]);
+        let (p, l, allowance) = (case.provable, case.logic, passes * n as u32);
+        let a = (core.parse)(p, l, &case.rules, &case.nodes, &case.edges, tokens, allowance, f, o, w);
+        (a, &list[..a[2] as usize])
+    }
+}
+
+/// Nanoseconds of one call, on average over the statements.
+impl Core {
+    fn outcomes(&self, case: &Case) -> Outcomes {
+        let mut room = Room::new(case);
+        let outcome = |tokens: &Vec<u32>| {
+            let (answer, list) = room.parse(self, case, tokens, 4);
+            (answer, list.to_vec())
+        };
+        case.statements.iter().map(outcome).collect()
+    }
+
+    fn build(&self, case: &Case) -> f64 {
+        let (mut nodes, mut edges) = (vec![0; case.nodes.len()], vec![0; case.edges.len()]);
+        time(|| {
+            black_box((self.build)(case.provable, case.logic, &case.rules, &mut nodes, &mut edges));
+        })
+    }
+
+    /// Parses with so many passes allowed for each token.
+    fn parse(&self, case: &Case, passes: u32) -> f64 {
+        let mut room = Room::new(case);
+        let all = time(|| {
+            for tokens in &case.statements {
+                black_box(room.parse(self, case, tokens, passes));
+            }
+        });
+        all / case.statements.len() as f64
+    }
+
+    fn verify(&self, case: &Case, outcomes: &Outcomes) -> f64 {
+        let accepted = accepted(case, outcomes);
+        let mut work = vec![0; 17 * case.longest()];
+        let all = time(|| {
+            for (tokens, list) in &accepted {
+                black_box((self.verify)(
+                    case.provable,
+                    case.logic,
+                    &case.rules,
+                    tokens,
+                    list,
+                    &mut work[..list.len()],
+                ));
+            }
+        });
+        all / accepted.len() as f64
+    }
+
+    /// The rule check, which is what the body of rule 1 takes.
+    fn rule_check(&self, case: &Case) -> f64 {
+        time(|| {
+            black_box((self.body)(case.provable, case.logic, &case.rules, 1));
+        })
+    }
+
+    /// Rule check and table check, which is what a parse of no tokens takes.
+    fn checks(&self, case: &Case) -> f64 {
+        let (p, l) = (case.provable, case.logic);
+        time(|| {
+            black_box((self.parse)(
+                p,
+                l,
+                &case.rules,
+                &case.nodes,
+                &case.edges,
+                &[],
+                0,
+                &mut [],
+                &mut [],
+                &mut [],
+            ));
+        })
+    }
+}
+
+/// Nanoseconds of each kind of call, where it can be had.
+struct Column {
+    name: String,
+    build: Option<f64>,
+    parse: f64,
+    verify: Option<f64>,
+}
+
+/// The plain Rust with rules and tables read once.
+fn read_once(case: &Case, outcomes: &Outcomes) -> Column {
+    let g = plain::Grammar::read(case.provable, case.logic, &case.rules, &case.nodes, &case.edges).expect("the tables were built");
+    let rooms = |n: usize| plain::Rooms {
+        allowance: 4 * n as u32,
+        frames: n,
+        list: 17 * n,
+    };
+    let parse = time(|| {
+        for tokens in &case.statements {
+            black_box(g.parse(tokens, rooms(tokens.len() - 1)));
+        }
+    });
+    let accepted = accepted(case, outcomes);
+    let verify = time(|| {
+        for (tokens, list) in &accepted {
+            black_box(plain::check(&g.rules, g.rules.typecodes.wanted(tokens[0]), &tokens[1..], list));
+        }
+    });
+    Column {
+        name: "plain, read once".to_owned(),
+        build: None,
+        parse: parse / case.statements.len() as f64,
+        verify: Some(verify / accepted.len() as f64),
+    }
+}
+
+/// The published Rust behind its line driver, as a command and its arguments, under the name of its column.
+struct Oracle {
+    name: String,
+    command: Vec<String>,
+}
+
+impl Oracle {
+    fn new(text: &str) -> Self {
+        let (name, command) = text.split_once('=').unwrap_or(("published", text));
+        Oracle {
+            name: name.to_owned(),
+            command: command.split(' ').map(str::to_owned).collect(),
+        }
+    }
+
+    /// Nanoseconds of processor time that the program takes over some lines; the shell counts them, in hundredths of a second.
+    fn run(&self, lines: &str) -> f64 {
+        let path = std::env::temp_dir().join(format!("bench-{}.in", std::process::id()));
+        std::fs::write(&path, lines).expect("the folder for temporary files can be written");
+        let run = |_| {
+            let input = File::open(&path).expect("it was written");
+            let shell = ["-c", "\"$@\" >/dev/null && times", "sh"];
+            let output = Command::new("sh")
+                .args(shell)
+                .args(&self.command)
+                .stdin(input)
+                .stderr(Stdio::inherit())
+                .output();
+            let output = output.expect("there is a shell");
+            assert!(output.status.success(), "the oracle ends well");
+            of_children(&String::from_utf8_lossy(&output.stdout)).expect("the shell tells times")
+        };
+        let times = (0..REPETITIONS).map(run).collect();
+        std::fs::remove_file(&path).expect("it is there");
+        median(times)
+    }
+
+    /// What so many builds more take.
+    fn build(&self, case: &Case, copies: usize) -> f64 {
+        let one = case.lines();
+        (self.run(&(one.clone() + &"build\n".repeat(copies))) - self.run(&one)) / copies as f64
+    }
+
+    /// What it takes with the statements, so many times over, less what it takes without.
+    fn parse(&self, case: &Case, copies: usize) -> f64 {
+        let without = case.lines();
+        let with = without.clone() + &case.parse_lines().repeat(copies);
+        (self.run(&with) - self.run(&without)) / (copies * case.statements.len()) as f64
+    }
+}
+
+/// What the shell's `times` says of its children, in its second line: `0m1.230s 0m0.010s`, user and system.
+fn of_children(times: &str) -> Option<f64> {
+    let nanoseconds = |word: &str| {
+        let (minutes, seconds) = word.strip_suffix('s')?.split_once('m')?;
+        Some(1e9 * (60.0 * minutes.parse::<f64>().ok()? + seconds.parse::<f64>().ok()?))
+    };
+    times.lines().nth(1)?.split(' ').map(nanoseconds).sum()
+}
+
+// ---- what is printed
+
+/// A heading and rows, in Markdown.
+fn table(title: &str, headings: &[String], rows: &[Vec<String>]) {
+    println!("\n{title}\n\n| {} |\n|{}", headings.join(" | "), "---|".repeat(headings.len()));
+    rows.iter().for_each(|row| println!("| {} |", row.join(" | ")));
+}
+
+fn texts<const N: usize>(words: [&str; N]) -> Vec<String> {
+    words.map(str::to_owned).to_vec()
+}
+
+fn micro(nanoseconds: f64) -> String {
+    format!("{:.2}", nanoseconds / 1000.0)
+}
+
+fn row(name: &str, nanoseconds: impl Iterator<Item = Option<f64>>) -> Vec<String> {
+    let cells = nanoseconds.map(|ns| ns.map_or(String::new(), micro));
+    std::iter::once(name.to_owned()).chain(cells).collect()
+}
+
+fn average(of: impl ExactSizeIterator<Item = usize>) -> f64 {
+    let count = of.len() as f64;
+    of.sum::<usize>() as f64 / count
+}
+
+struct Bench {
+    library: Core,
+    plain: Core,
+    oracles: Vec<Oracle>,
+}
+
+impl Bench {
+    /// The outcomes, on which library and plain Rust must agree in every number and every list.
+    fn outcomes(&self, case: &Case) -> Outcomes {
+        let outcomes = self.library.outcomes(case);
+        assert_eq!(outcomes, self.plain.outcomes(case), "library and plain Rust agree");
+        assert!(outcomes.iter().all(|(answer, _)| answer[0] != 5), "4n passes are enough");
+        outcomes
+    }
+
+    fn columns(&self, case: &Case, outcomes: &Outcomes, [builds, parses]: [usize; 2]) -> Vec<Column> {
+        let of_core = |core: &Core| Column {
+            name: core.name.to_owned(),
+            build: Some(core.build(case)),
+            parse: core.parse(case, 4),
+            verify: Some(core.verify(case, outcomes)),
+        };
+        let of_oracle = |oracle: &Oracle| Column {
+            name: oracle.name.clone(),
+            build: Some(oracle.build(case, builds)),
+            parse: oracle.parse(case, parses),
+            verify: None,
+        };
+        let mut columns = vec![of_core(&self.library), of_core(&self.plain), read_once(case, outcomes)];
+        columns.extend(self.oracles.iter().map(of_oracle));
+        columns
+    }
+
+    /// Build, parse and verify, and what a pass takes of a parse. The published Rust gets so many copies of the build and the statements.
+    fn compare(&self, title: &str, case: &Case, copies: [usize; 2]) -> (Vec<Column>, Outcomes) {
+        let outcomes = self.outcomes(case);
+        let columns = self.columns(case, &outcomes, copies);
+        let passes = average(outcomes.iter().map(|(answer, _)| answer[3] as usize));
+        let tokens = average(case.statements.iter().map(Vec::len));
+        let rows = [
+            row("build", columns.iter().map(|c| c.build)),
+            row("parse", columns.iter().map(|c| Some(c.parse))),
+            row("parse, by its passes", columns.iter().map(|c| Some(c.parse / passes))),
+            row("verify", columns.iter().map(|c| c.verify)),
+        ];
+        let headings = [texts(["microseconds"]), columns.iter().map(|c| c.name.clone()).collect()].concat();
+        let (rules, lines, count) = (case.starts().count(), case.edges.len() / 16, case.statements.len());
+        let about = format!("{rules} rules, {lines} rows; statements: {count}, on average {tokens:.1} tokens and {passes:.1} passes");
+        table(&format!("**{title}** ({about})"), &headings, &rows);
+        (columns, outcomes)
+    }
+
+    /// The parts of the library's parse.
+    fn parts(&self, case: &Case, whole: &Column) {
+        let rule_check = self.library.rule_check(case);
+        let (checks, idle) = (self.library.checks(case), self.library.parse(case, 0));
+        let part = |name: &str, ns: f64| vec![name.to_owned(), micro(ns), format!("{:.0} %", 100.0 * ns / whole.parse)];
+        let rows = [
+            part("rule check", rule_check),
+            part("table check", checks - rule_check),
+            part("clearing the lent slices", idle - checks),
+            part("passes, and the check at the end", whole.parse - idle),
+        ];
+        table(
+            "**Where the library's time goes**, same statements",
+            &texts(["part of a parse", "microseconds", "share"]),
+            &rows,
+        );
+    }
+
+    /// How the parts grow along one kind of size; each case has one statement.
+    fn growth(&self, title: &str, cases: impl Iterator<Item = Case>) {
+        let sizes = texts(["tokens", "rules", "rows", "passes"]);
+        let library = texts([
+            "checks, µs",
+            "clearing, µs",
+            "a pass, ns",
+            "build, µs",
+            "plain, read once: a pass, ns",
+        ]);
+        let oracles = self.oracles.iter().map(|oracle| format!("{}: a pass, ns", oracle.name)).collect();
+        let rows: Vec<Vec<String>> = cases.map(|case| self.growth_row(&case)).collect();
+        table(title, &[sizes, library, oracles].concat(), &rows);
+    }
+
+    fn growth_row(&self, case: &Case) -> Vec<String> {
+        let outcomes = self.outcomes(case);
+        let passes = outcomes[0].0[3] as usize;
+        let (checks, idle, parse) = (self.library.checks(case), self.library.parse(case, 0), self.library.parse(case, 4));
+        let copies = 20_000 / passes + 1;
+        let theirs = self.oracles.iter().map(|oracle| oracle.parse(case, copies));
+        let of_pass = |ns: f64| format!("{:.0}", ns / passes as f64);
+        let sizes = [case.longest(), case.starts().count(), case.edges.len() / 16, passes].map(|size| size.to_string());
+        let ours = [
+            micro(checks),
+            micro(idle - checks),
+            of_pass(parse - idle),
+            micro(self.library.build(case)),
+        ];
+        let plain = of_pass(read_once(case, &outcomes).parse);
+        [sizes.to_vec(), ours.to_vec(), vec![plain], theirs.map(of_pass).collect()].concat()
+    }
+}
+
+// ---- the cases
+
+/// Set S of the paper, after `before`.
+fn set_s(before: Vec<u32>, statement: Vec<u32>) -> Case {
+    let set: [&[u32]; 9] = [
+        &[2, 1, 0, 10],
+        &[2, 1, 0, 11],
+        &[3, 1, 0, 12],
+        &[4, 1, 0, 13],
+        &[3, 1, 1, 4],
+        &[2, 2, 0, 14, 1, 2],
+        &[2, 5, 0, 5, 1, 2, 0, 7, 1, 2, 0, 6],
+        &[2, 3, 1, 3, 0, 8, 1, 3],
+        &[2, 3, 1, 3, 0, 9, 1, 3],
+    ];
+    Case::new(1, 2, [before, set.concat()].concat(), vec![statement])
+}
+
+/// The ten-pass sentence, put so many times over into its own second half: each time adds four tokens.
+fn nested(depth: usize) -> Vec<u32> {
+    [vec![1], [5, 10, 7].repeat(depth), vec![11], vec![6; depth]].concat()
+}
+
+/// Rules with 32 constants each: 32 rows for one rule.
+fn rows_before(count: u32) -> Vec<u32> {
+    let rule = |k: u32| [vec![2, 32, 0, 1000 + k], [0, 999].repeat(31)].concat();
+    (0..count).flat_map(rule).collect()
+}
+
+/// Conversions between typecodes that nothing else has: rules without rows.
+fn rules_before(count: u32) -> Vec<u32> {
+    (0..count).flat_map(|k| [30_000 + k, 1, 1, 40_000 + k]).collect()
+}
+
+fn sheet(bench: &Bench) {
+    for (title, statement) in [("Set S, 1 10", vec![1, 10]), ("Set S, the ten-pass sentence", nested(1))] {
+        bench.compare(title, &set_s(vec![], statement), [200, 4000]);
+    }
+}
+
+fn database(bench: &Bench, path: &str) -> Result<(), String> {
+    let text = std::fs::read_to_string(path).map_err(|e| format!("{path}: {e}"))?;
+    let d = Database::read(&text).map_err(|e| format!("{path}: {e}"))?;
+    let sample = d.statements.iter().step_by(STEP).map(|s| s.tokens.clone()).collect();
+    let case = Case::new(d.provable, d.logic, d.rule_words(), sample);
+    let name = path.rsplit('/').next().unwrap_or(path);
+    let (columns, _) = bench.compare(&format!("{name}, one statement in {STEP}"), &case, [4, 4]);
+    bench.parts(&case, &columns[0]);
+    Ok(())
+}
+
+fn growths(bench: &Bench) {
+    let depths = [1, 2, 4, 8, 16, 32, 64, 128, 256, 512, 1023];
+    bench.growth(
+        "**More tokens**: set S, the ten-pass sentence nested",
+        depths.iter().map(|&n| set_s(vec![], nested(n))),
+    );
+    let rules = [0, 4, 8, 16, 32, 64, 128, 255];
+    bench.growth(
+        "**More rows**: rules of 32 constants before set S",
+        rules.iter().map(|&n| set_s(rows_before(n), nested(16))),
+    );
+    let idle = [0, 16, 32, 64, 128, 256, 512, 1024, 2039];
+    bench.growth(
+        "**More rules**: idle conversions before set S",
+        idle.iter().map(|&n| set_s(rules_before(n), nested(16))),
+    );
+}
+
+/// The words after each `name` among the arguments.
+fn options(args: &[String], name: &str) -> Vec<String> {
+    args.windows(2).filter(|pair| pair[0] == name).map(|pair| pair[1].clone()).collect()
+}
+
+fn main() -> ExitCode {
+    let args: Vec<String> = std::env::args().skip(1).collect();
+    let bench = Bench {
+        library: core!("library", jiehkavon::words),
+        plain: core!("plain", plain::words),
+        oracles: options(&args, "--oracle").iter().map(|text| Oracle::new(text)).collect(),
+    };
+    println!("Medians of {REPETITIONS} repetitions.");
+    sheet(&bench);
+    for path in options(&args, "--database") {
+        if let Err(why) = database(&bench, &path) {
+            eprintln!("bench: {why}");
+            return ExitCode::FAILURE;
+        }
+    }
+    growths(&bench);
+    ExitCode::SUCCESS
+}

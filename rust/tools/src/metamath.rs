@@ -1,0 +1,374 @@
+//! A reader of Metamath databases: what a grammar needs of one, as numbers.
+//!
+//! Proofs and distinct variables are passed over. A variable's `$f` becomes a rule with one constant, an `$a` of a typecode other than the
+//! provable one a rule with constants and slots; every other `$a`, and every `$e` and `$p`, is a statement.
+
+use std::collections::HashMap;
+use std::str::SplitAsciiWhitespace;
+
+/// The typecodes where no `$j` comment names them.
+const PROVABLE: &str = "|-";
+const LOGIC: &str = "wff";
+
+#[derive(Clone, Copy, Debug, PartialEq, Eq)]
+pub enum Item {
+    Constant(u32),
+    Slot(u32),
+}
+
+#[derive(Clone, Debug)]
+pub struct Rule {
+    pub label: String,
+    pub result: u32,
+    pub body: Vec<Item>,
+    /// It comes from a `$f`.
+    pub float: bool,
+}
+
+#[derive(Clone, Debug)]
+pub struct Statement {
+    pub label: String,
+    /// The typecode first.
+    pub tokens: Vec<u32>,
+}
+
+#[derive(Clone, Debug, Default)]
+pub struct Database {
+    /// Symbol `n` is called `symbols[n - 1]`.
+    pub symbols: Vec<String>,
+    pub provable: u32,
+    pub logic: u32,
+    pub rules: Vec<Rule>,
+    pub statements: Vec<Statement>,
+    /// How many `$f` gave way to a later one of the same variable.
+    pub repeated: usize,
+}
+
+impl Database {
+    pub fn read(text: &str) -> Result<Database, String> {
+        let mut reader = Reader::new(text);
+        reader.run()?;
+        match reader.database {
+            Database { provable: 0, .. } | Database { logic: 0, .. } => Err("the provable or the logic typecode isn't declared".to_owned()),
+            database => Ok(database),
+        }
+    }
+
+    /// The rules as the words of the paper's table.
+    pub fn rule_words(&self) -> Vec<u32> {
+        let mut words = Vec::new();
+        for rule in &self.rules {
+            words.extend([rule.result, rule.body.len() as u32]);
+            words.extend(rule.body.iter().flat_map(|item| match *item {
+                Item::Constant(s) => [0, s],
+                Item::Slot(t) => [1, t],
+            }));
+        }
+        words
+    }
+
+    /// The same set for the line driver around the published Rust, up to and including its build. `commands` is run after the rules.
+    pub fn lines(&self, commands: &[Command]) -> String {
+        let head = format!("set {} {}\n", self.provable, self.logic);
+        let rules = self.rules.iter().map(|rule| match (rule.float, &rule.body[..]) {
+            (true, [Item::Constant(s)]) => format!("float {} {s}\n", rule.result),
+            (_, body) => format!("rule {} {}\n", rule.result, pairs(body)),
+        });
+        let commands = commands.iter().map(|command| match command {
+            Command::TypeConversions => "conv\n".to_owned(),
+            Command::GardenPath(prefix, shadow) => format!("gp {} {}\n", pairs(prefix), pairs(shadow)),
+        });
+        head + &rules.chain(commands).collect::<String>() + "build\n"
+    }
+
+    /// Commands as a `$j` comment has them, each ended by a semicolon.
+    pub fn commands(&self, text: &str) -> Result<Vec<Command>, String> {
+        let split = text.split(';').map(|c| c.split_ascii_whitespace().collect::<Vec<_>>());
+        split.filter(|c| !c.is_empty()).map(|c| self.command(&c)).collect()
+    }
+
+    fn command(&self, words: &[&str]) -> Result<Command, String> {
+        match (words, words.iter().position(|w| *w == "=>")) {
+            (["type_conversions"], _) => Ok(Command::TypeConversions),
+            (["garden_path", ..], Some(at)) => Ok(Command::GardenPath(self.items(&words[1..at])?, self.items(&words[at + 1..])?)),
+            _ => Err(format!("no command: {}", words.join(" "))),
+        }
+    }
+
+    fn items(&self, names: &[&str]) -> Result<Vec<Item>, String> {
+        names.iter().map(|name| self.item(name)).collect()
+    }
+
+    /// A variable, which is what has a `$f`, stands for a slot.
+    fn item(&self, name: &str) -> Result<Item, String> {
+        let at = self
+            .symbols
+            .iter()
+            .position(|s| s == name)
+            .ok_or_else(|| format!("{name} isn't declared"))?;
+        let constant = Item::Constant(at as u32 + 1);
+        let float = self.rules.iter().find(|r| r.float && r.body == [constant]);
+        Ok(float.map_or(constant, |r| Item::Slot(r.result)))
+    }
+}
+
+/// What the published Rust runs after the rules.
+#[derive(Clone, Debug, PartialEq, Eq)]
+pub enum Command {
+    TypeConversions,
+    GardenPath(Vec<Item>, Vec<Item>),
+}
+
+/// A length and that many pairs.
+fn pairs(body: &[Item]) -> String {
+    let pair = |item: &Item| match *item {
+        Item::Constant(s) => format!(" 0 {s}"),
+        Item::Slot(t) => format!(" 1 {t}"),
+    };
+    body.len().to_string() + &body.iter().map(pair).collect::<String>()
+}
+
+/// The words of a text outside its comments. A comment that isn't closed runs to the end.
+struct Words<'a>(SplitAsciiWhitespace<'a>);
+
+impl<'a> Iterator for Words<'a> {
+    type Item = &'a str;
+
+    fn next(&mut self) -> Option<&'a str> {
+        let mut word = self.0.next()?;
+        while word == "$(" {
+            self.0.find(|w| *w == "$)")?;
+            word = self.0.next()?;
+        }
+        Some(word)
+    }
+}
+
+/// The provable and the logic typecode. A `$j` comment anywhere decides, so that it need not stand before the first rule.
+fn typecodes(text: &str) -> (String, String) {
+    let comments = text.split("$(").skip(1).filter_map(|rest| rest.split("$)").next());
+    let commands = comments
+        .filter_map(|c| c.trim_start().strip_prefix("$j"))
+        .flat_map(|c| c.split(';'));
+    let named = commands.filter_map(syntax_as).next();
+    named.unwrap_or((PROVABLE.to_owned(), LOGIC.to_owned()))
+}
+
+/// The two names in `syntax 'A' as 'B'`.
+fn syntax_as(command: &str) -> Option<(String, String)> {
+    let words: Vec<&str> = command.split_ascii_whitespace().collect();
+    match words[..] {
+        ["syntax", a, "as", b] => Some((a.trim_matches('\'').to_owned(), b.trim_matches('\'').to_owned())),
+        _ => None,
+    }
+}
+
+struct Reader<'a> {
+    words: Words<'a>,
+    typecodes: (String, String),
+    numbers: HashMap<&'a str, u32>,
+    /// For each symbol, whether it was declared a variable.
+    variable: Vec<bool>,
+    /// Variables and typecodes of the `$f` in force, and how many were in force where each open scope began.
+    floats: Vec<(u32, u32)>,
+    scopes: Vec<usize>,
+    database: Database,
+}
+
+impl<'a> Reader<'a> {
+    fn new(text: &'a str) -> Self {
+        Reader {
+            words: Words(text.split_ascii_whitespace()),
+            typecodes: typecodes(text),
+            numbers: HashMap::new(),
+            variable: Vec::new(),
+            floats: Vec::new(),
+            scopes: Vec::new(),
+            database: Database::default(),
+        }
+    }
+
+    fn run(&mut self) -> Result<(), String> {
+        let mut label = "";
+        while let Some(word) = self.words.next() {
+            match word {
+                "$c" | "$v" => self.declare(word == "$v")?,
+                "${" => self.scopes.push(self.floats.len()),
+                "$}" => self.close()?,
+                "$d" => drop(self.math()?),
+                "$f" => self.float(label).map_err(|why| format!("{label}: {why}"))?,
+                "$a" | "$e" | "$p" => self.assertion(label, word == "$a").map_err(|why| format!("{label}: {why}"))?,
+                "$[" => return Err("another file is included, which isn't read here".to_owned()),
+                _ => label = word,
+            }
+        }
+        Ok(())
+    }
+
+    fn declare(&mut self, variable: bool) -> Result<(), String> {
+        for name in self.math()? {
+            if self.numbers.contains_key(name) {
+                continue; // a variable of several scopes is one symbol
+            }
+            self.database.symbols.push(name.to_owned());
+            self.variable.push(variable);
+            let number = self.database.symbols.len() as u32;
+            self.numbers.insert(name, number);
+            self.name_typecode(name, number);
+        }
+        Ok(())
+    }
+
+    fn name_typecode(&mut self, name: &str, number: u32) {
+        if name == self.typecodes.0 {
+            self.database.provable = number;
+        } else if name == self.typecodes.1 {
+            self.database.logic = number;
+        }
+    }
+
+    fn close(&mut self) -> Result<(), String> {
+        let begun = self.scopes.pop().ok_or("a scope is closed that wasn't opened")?;
+        self.floats.truncate(begun);
+        Ok(())
+    }
+
+    /// The words up to the end of a statement, its proof left out.
+    fn math(&mut self) -> Result<Vec<&'a str>, String> {
+        let mut math = Vec::new();
+        for word in self.words.by_ref() {
+            match word {
+                "$." => return Ok(math),
+                "$=" => break,
+                _ => math.push(word),
+            }
+        }
+        self.words.find(|w| *w == "$.").ok_or("the text ends within a statement")?;
+        Ok(math)
+    }
+
+    fn symbols(&mut self) -> Result<Vec<u32>, String> {
+        let math = self.math()?;
+        let number = |name: &str| self.numbers.get(name).copied().ok_or_else(|| format!("{name} isn't declared"));
+        math.into_iter().map(number).collect()
+    }
+
+    /// A variable has one rule, where its last `$f` stands, as the published Rust has it: there a later leaf takes the earlier one's place.
+    fn float(&mut self, label: &str) -> Result<(), String> {
+        let [result, variable] = self.symbols()?[..] else {
+            return Err("a $f has a typecode and a variable".to_owned());
+        };
+        let body = vec![Item::Constant(variable)];
+        let before = self.database.rules.len();
+        if self.database.rules.iter().any(|r| r.float && r.body == body && r.result != result) {
+            return Err("the variable has another typecode in another scope".to_owned());
+        }
+        self.database.rules.retain(|r| !r.float || r.body != body);
+        self.database.repeated += before - self.database.rules.len();
+        self.database.rules.push(Rule {
+            label: label.to_owned(),
+            result,
+            body,
+            float: true,
+        });
+        self.floats.push((variable, result));
+        Ok(())
+    }
+
+    fn assertion(&mut self, label: &str, axiom: bool) -> Result<(), String> {
+        let tokens = self.symbols()?;
+        let label = label.to_owned();
+        match tokens.split_first() {
+            None => Err("a statement has a typecode".to_owned()),
+            Some((&result, rest)) if axiom && result != self.database.provable => {
+                let body = rest.iter().map(|&s| self.item(s)).collect::<Result<_, String>>()?;
+                self.database.rules.push(Rule {
+                    label,
+                    result,
+                    body,
+                    float: false,
+                });
+                Ok(())
+            }
+            Some(_) => {
+                self.database.statements.push(Statement { label, tokens });
+                Ok(())
+            }
+        }
+    }
+
+    /// What a symbol is in a rule's body: a variable leaves a slot of its typecode.
+    fn item(&self, symbol: u32) -> Result<Item, String> {
+        if !self.variable[symbol as usize - 1] {
+            return Ok(Item::Constant(symbol));
+        }
+        let float = self.floats.iter().rev().find(|(variable, _)| *variable == symbol);
+        let (_, typecode) = float.ok_or_else(|| format!("no $f is in force for {}", self.database.symbols[symbol as usize - 1]))?;
+        Ok(Item::Slot(*typecode))
+    }
+}
+
+#[cfg(test)]
+mod tests {
+    use super::*;
+
+    const TEXT: &str = "$( $j syntax 'form'; syntax 'holds' as 'form'; $) $c holds form thing ( = ) set $. $v p $. fp $f form p $.
+        ${ $v x $. tx $f set x $. $( x $. $) cv $a thing x $. $}
+        $v x y $. vx $f set x $. vy $f set y $. ${ $v A B $. tA $f thing A $. tB $f thing B $. eq $a form ( A = B ) $. $}
+        ${ e $e holds p $. th $p holds ( x = y ) $= ? $. $} sy $p form ( x = x ) $= eq $. ax $a holds p $.";
+
+    fn read() -> Database {
+        Database::read(TEXT).expect("it is a database")
+    }
+
+    fn names(labels: impl Iterator<Item = String>) -> String {
+        labels.collect::<Vec<_>>().join(" ")
+    }
+
+    #[test]
+    fn rules_come_in_order_of_appearance_a_variable_where_its_last_float_is() {
+        let d = read();
+        assert_eq!(names(d.rules.iter().map(|r| r.label.clone())), "fp cv vx vy tA tB eq");
+        assert_eq!(d.repeated, 1);
+        assert_eq!(names(d.symbols.iter().cloned()), "holds form thing ( = ) set p x y A B");
+        let words = [
+            2, 1, 0, 8, 3, 1, 1, 7, 7, 1, 0, 9, 7, 1, 0, 10, 3, 1, 0, 11, 3, 1, 0, 12, 2, 5, 0, 4, 1, 3, 0, 5, 1, 3, 0, 6,
+        ];
+        assert_eq!(d.rule_words(), words);
+    }
+
+    #[test]
+    fn statements_are_what_is_no_rule() {
+        let d = read();
+        assert_eq!((d.provable, d.logic), (1, 2));
+        assert_eq!(names(d.statements.iter().map(|s| s.label.clone())), "e th sy ax");
+        assert_eq!(d.statements[1].tokens, [1, 4, 9, 5, 10, 6]);
+        assert_eq!(d.statements[2].tokens, [2, 4, 9, 5, 9, 6]);
+    }
+
+    #[test]
+    fn lines_say_the_same_set() {
+        let d = read();
+        let commands = d.commands("garden_path ( x => ( A ; type_conversions;").expect("both are commands");
+        let said = "set 1 2\nfloat 2 8\nrule 3 1 1 7\nfloat 7 9\nfloat 7 10\nfloat 3 11\nfloat 3 12\n\
+            rule 2 5 0 4 1 3 0 5 1 3 0 6\ngp 2 0 4 1 7 2 0 4 1 3\nconv\nbuild\n";
+        assert_eq!(d.lines(&commands), said);
+    }
+
+    #[test]
+    fn what_cannot_be_said_is_refused() {
+        let why = |text: &str| Database::read(text).map(|d| d.rules.len());
+        assert_eq!(why("$c |- wff $. $v p $. f $f wff p $."), Ok(1));
+        for text in [
+            "$c |- $.",
+            "$c |- wff $. a $a wff p $.",
+            "$c |- wff $. $[ x.mm $]",
+            "$c |- wff $. a $a wff",
+            "$c |- wff $. $}",
+            "$c |- wff $. $v p $. a $a wff p $.",
+            "$c |- wff set $. ${ $v p $. f $f wff p $. $} $v p $. g $f set p $.",
+        ] {
+            assert!(why(text).is_err(), "{text}");
+        }
+    }
+}
