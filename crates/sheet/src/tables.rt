@@ -1,0 +1,78 @@
+// The tables that the sheet has set, in one slice, each with the count of its words before them.
+use crate::text;
+
+// Where each table starts: the typecodes; the allowance and the words lent; the answer of a row; the rules and their tree; what a row asks.
+pub const CODES: usize = 0;
+
+pub const LENT: usize = 4;
+
+pub const ANSWER: usize = 10;
+
+pub const RULES: usize = 16;
+
+pub const NODES: usize = 4096;
+
+pub const EDGES: usize = 4224;
+
+pub const ASKED: usize = 8192;
+
+// A table that stays empty.
+pub const NOTHING: usize = 16383;
+
+pub const END: usize = 16384;
+
+pub fn word_at(s: &[u32], i: usize) -> u32 {
+    if i < s.len() {
+        return s[i];
+    }
+    0
+}
+
+// The words of the table that starts here.
+pub fn held(t: &[u32], start: usize) -> &[u32] {
+    let n = word_at(t, start) as usize;
+    if start < t.len() {
+        if n < t.len() - start {
+            let a = start + 1;
+            let e = a + n;
+            return &t[a..e];
+        }
+    }
+    &t[0..0]
+}
+
+pub fn codes(t: &[u32]) -> rules::Codes {
+    rules::Codes {
+        provable: words::SymbolNo(word_at(t, CODES + 1)),
+        logic: words::SymbolNo(word_at(t, CODES + 2)),
+    }
+}
+
+pub fn start(name: u8) -> usize {
+    match name {
+        b'c' => CODES,
+        b'l' => LENT,
+        b'r' => RULES,
+        b'n' => NODES,
+        _ => EDGES,
+    }
+}
+
+pub fn end(name: u8) -> usize {
+    match name {
+        b'c' => LENT,
+        b'l' => ANSWER,
+        b'r' => NODES,
+        b'n' => EDGES,
+        _ => ASKED,
+    }
+}
+
+pub fn set(line: &[u8], k: usize, t: &mut [u32], start: usize, end: usize) -> bool {
+    if start <= end {
+        if end <= t.len() {
+            return text::read(text::piece(line, k, b'|'), &mut t[start..end]);
+        }
+    }
+    false
+}

@@ -1,0 +1,155 @@
+// The sheet's text: its lines, the fields of a line, and the words of a field.
+ghost use Prim.Native.Nat.{_≤_};
+ghost use lib.ListN.{length};
+
+// ---- pieces: a line end parts lines, a bar fields, a blank the items of a field, a comma the words of an item
+
+// 1 where a piece ends, 0 elsewhere.
+fn mark(b: u8, by: u8) -> usize
+    ensures { λ r. ⌜ r ≤ 1 ⌝ }
+{
+    if b == by {
+        return 1;
+    }
+    0
+}
+
+pub fn pieces(text: &[u8], by: u8) -> usize
+    ensures { λ r. ⌜ 1 ≤ r ⌝ }
+{
+    let mut n = 1;
+    let mut i = 0;
+    while i < text.len() {
+        n += mark(text[i], by);
+        i += 1;
+    }
+    n
+}
+
+// Where piece `k` starts, counted from 0; the text's end where there is none.
+fn start_of(text: &[u8], k: usize, by: u8) -> usize
+    ensures { λ r. ⌜ r ≤ length (now (text .entry)) ⌝ }
+{
+    let mut left = k;
+    let mut i = 0;
+    while i < text.len() {
+        if left == 0 {
+            return i;
+        }
+        left -= mark(text[i], by);
+        i += 1;
+    }
+    i
+}
+
+fn end_of(text: &[u8], from: usize, by: u8) -> usize
+    requires { ⌜ from ≤ length (now text) ⌝ }
+    ensures { λ r. ⌜ (from ≤ r) × (r ≤ length (now (text .entry))) ⌝ }
+{
+    let mut i = from;
+    while i < text.len() {
+        if text[i] == by {
+            return i;
+        }
+        i += 1;
+    }
+    i
+}
+
+pub fn piece(text: &[u8], k: usize, by: u8) -> &[u8] {
+    let start = start_of(text, k, by);
+    let end = end_of(text, start, by);
+    &text[start..end]
+}
+
+// The fields before field `k`, with their bars.
+pub fn before(line: &[u8], k: usize) -> &[u8] {
+    let end = start_of(line, k, b'|');
+    &line[0..end]
+}
+
+// ---- words
+
+// More than any word: what can't be read stands for this.
+const BAD: u64 = 4294967296;
+
+// What stands after the last word.
+const END: u64 = 4294967297;
+
+// One digit more. `c` and `s` are the words 0 and 1, the kinds of an item and of an edge.
+fn longer(n: u64, b: u8) -> u64 {
+    if BAD <= n {
+        return BAD;
+    }
+    match b {
+        b'0'..=b'9' => 10 * n + ((b - 48) as u64),
+        b'c' => 10 * n,
+        b's' => 10 * n + 1,
+        _ => BAD,
+    }
+}
+
+fn number(text: &[u8]) -> u64 {
+    let mut n = 0;
+    let mut i = 0;
+    while i < text.len() {
+        n = longer(n, text[i]);
+        i += 1;
+    }
+    n
+}
+
+// How many words an item stands for: as many as it has, or as it says after `*`.
+fn count(item: &[u8]) -> u64 {
+    if item.len() == 0 {
+        return 0;
+    }
+    if pieces(item, b'*') == 1 {
+        return pieces(item, b',') as u64;
+    }
+    number(piece(item, 1, b'*'))
+}
+
+// Word `j` of an item, whose words come again and again.
+fn word_of(item: &[u8], j: u64) -> u64 {
+    let words = piece(item, 0, b'*');
+    let n = pieces(words, b',') as u64;
+    number(piece(words, (j % n) as usize, b','))
+}
+
+fn word(text: &[u8], j: u64) -> u64 {
+    let items = pieces(text, b' ');
+    let mut left = j;
+    let mut i = 0;
+    while i < items {
+        let item = piece(text, i, b' ');
+        let n = count(item);
+        if left < n {
+            return word_of(item, left);
+        }
+        left -= n;
+        i += 1;
+    }
+    END
+}
+
+// The words of a field, after their count; whether they could be read. A number is a word, `c` and `s` are 0 and 1, and `7,8*4` are the words
+// 7 8 7 8.
+pub fn read(text: &[u8], out: &mut [u32]) -> bool {
+    let mut n = 0;
+    let mut i = 1;
+    while i < out.len() {
+        let x = word(text, n as u64);
+        if x == END {
+            out[0] = n;
+            return true;
+        }
+        if BAD <= x {
+            return false;
+        }
+        out[i] = x as u32;
+        n = std::num::wrapping_add_u32(n, 1);
+        i += 1;
+    }
+    false
+}
