@@ -5,50 +5,14 @@
 //! purpose, each in one way.
 
 use self::Item::{Constant, Slot};
+use crate::random::Random;
 use std::collections::BTreeMap;
 use std::ops::RangeInclusive;
 
-/// A small generator of numbers (splitmix64).
-pub struct Seed(u64);
-
-impl Seed {
-    /// The generator of set `number` of a seed.
-    pub fn of(seed: u64, number: u64) -> Self {
-        let mut mixed = Seed(seed);
-        let start = mixed.next();
-        Seed(start ^ number.wrapping_mul(0xD1B5_4A32_D192_ED03))
-    }
-
-    fn next(&mut self) -> u64 {
-        self.0 = self.0.wrapping_add(0x9E37_79B9_7F4A_7C15);
-        let mut z = self.0;
-        z = (z ^ (z >> 30)).wrapping_mul(0xBF58_476D_1CE4_E5B9);
-        z = (z ^ (z >> 27)).wrapping_mul(0x94D0_49BB_1331_11EB);
-        z ^ (z >> 31)
-    }
-
-    /// A number below `end`, which is not 0.
-    pub fn below(&mut self, end: usize) -> usize {
-        (self.next() % end as u64) as usize
-    }
-
-    fn between(&mut self, first: usize, last: usize) -> usize {
-        first + self.below(last + 1 - first)
-    }
-
-    fn percent(&mut self, share: usize) -> bool {
-        self.below(100) < share
-    }
-
-    fn pick(&mut self, from: &[u32]) -> u32 {
-        from[self.below(from.len())]
-    }
-
-    fn shuffle<T>(&mut self, list: &mut [T]) {
-        for i in (1..list.len()).rev() {
-            list.swap(i, self.below(i + 1));
-        }
-    }
+/// The generator of set `number` of a seed.
+fn random_of(seed: u64, number: u64) -> Random {
+    let start = Random::new(seed).number();
+    Random::new(start ^ number.wrapping_mul(0xD1B5_4A32_D192_ED03))
 }
 
 #[derive(Clone, Copy, Debug, PartialEq, Eq)]
@@ -138,8 +102,8 @@ enum Style {
 }
 
 /// Set `number` of a seed, and the generator for its statements.
-pub fn grow_set(seed: u64, number: u64) -> (Set, Seed) {
-    let mut seed = Seed::of(seed, number);
+pub fn grow_set(seed: u64, number: u64) -> (Set, Random) {
+    let mut seed = random_of(seed, number);
     if seed.below(4_000) == 0 {
         return (giant_set(&mut seed), seed);
     }
@@ -154,13 +118,13 @@ pub fn grow_set(seed: u64, number: u64) -> (Set, Seed) {
     (set, seed)
 }
 
-fn palette(seed: &mut Seed, typecodes: usize, constants: usize) -> Palette {
+fn palette(seed: &mut Random, typecodes: usize, constants: usize) -> Palette {
     let mut numbers: Vec<u32> = match seed.below(10) {
         0..=6 => (1..=typecodes as u32).chain(10..10 + constants as u32).collect(),
         _ => spread(seed, typecodes + constants),
     };
     let mut constants = numbers.split_off(typecodes);
-    if seed.percent(10) {
+    if seed.chance(10) {
         let at = seed.below(constants.len());
         constants[at] = seed.pick(&numbers);
     }
@@ -171,13 +135,13 @@ fn palette(seed: &mut Seed, typecodes: usize, constants: usize) -> Palette {
 }
 
 /// Different symbols from the whole range, both its ends often among them.
-fn spread(seed: &mut Seed, count: usize) -> Vec<u32> {
+fn spread(seed: &mut Random, count: usize) -> Vec<u32> {
     let mut numbers = Vec::new();
     while numbers.len() < count {
         let number = match seed.below(20) {
             0 => 1,
             1 => 65_535,
-            _ => seed.between(1, 65_535) as u32,
+            _ => seed.between(1..=65_535) as u32,
         };
         if !numbers.contains(&number) {
             numbers.push(number);
@@ -186,7 +150,7 @@ fn spread(seed: &mut Seed, count: usize) -> Vec<u32> {
     numbers
 }
 
-fn set_of(palette: &Palette, rules: Vec<Rule>, seed: &mut Seed) -> Set {
+fn set_of(palette: &Palette, rules: Vec<Rule>, seed: &mut Random) -> Set {
     let shuffle = seed.below(4) as u64;
     let mut set = Set {
         provable: palette.typecodes[0],
@@ -198,48 +162,44 @@ fn set_of(palette: &Palette, rules: Vec<Rule>, seed: &mut Seed) -> Set {
     set
 }
 
-fn small_palette(seed: &mut Seed) -> Palette {
-    let (typecodes, constants) = (seed.between(2, 5) + 1, seed.between(3, 8));
+fn small_palette(seed: &mut Random) -> Palette {
+    let (typecodes, constants) = (seed.between(2..=5) + 1, seed.between(3..=8));
     palette(seed, typecodes, constants)
 }
 
-fn ordinary_set(seed: &mut Seed) -> Set {
+fn ordinary_set(seed: &mut Random) -> Set {
     let palette = small_palette(seed);
-    let count = seed.between(1, 12).max(seed.between(0, 12));
+    let count = seed.between(1..=12).max(seed.between(0..=12));
     let conversions = conversions(seed, &palette);
     careful_set(seed, &palette, conversions, count)
 }
 
-fn big_set(seed: &mut Seed) -> Set {
+fn big_set(seed: &mut Random) -> Set {
     let palette = palette(seed, 9, 24);
-    let count = seed.between(13, 60);
+    let count = seed.between(13..=60);
     let conversions = conversions(seed, &palette);
     careful_set(seed, &palette, conversions, count)
 }
 
 /// As many rules as the rule table takes, or one more, or somewhat fewer. Among so many, conversions nearly always meet a leaf, so most sets
 /// have none.
-fn giant_set(seed: &mut Seed) -> Set {
+fn giant_set(seed: &mut Random) -> Set {
     let palette = palette(seed, 6, 300);
     let count = match seed.below(4) {
         0 => 2_048,
         1 => 2_049,
-        _ => seed.between(300, 2_000),
+        _ => seed.between(300..=2_000),
     };
-    let conversions = if seed.percent(20) {
-        conversions(seed, &palette)
-    } else {
-        Vec::new()
-    };
+    let conversions = if seed.chance(20) { conversions(seed, &palette) } else { Vec::new() };
     careful_set(seed, &palette, conversions, count)
 }
 
 /// Conversions as given, and placed bodies that don't collide.
-fn careful_set(seed: &mut Seed, palette: &Palette, conversions: Vec<Rule>, count: usize) -> Set {
+fn careful_set(seed: &mut Random, palette: &Palette, conversions: Vec<Rule>, count: usize) -> Set {
     let mut rules = conversions;
     rules.truncate(count / 2);
     let style = [Style::Prefix, Style::Prefix, Style::Infix, Style::Slots, Style::Free][seed.below(5)];
-    let leaves = seed.between(1, palette.typecodes.len() - 1);
+    let leaves = seed.between(1..=palette.typecodes.len() - 1);
     let mut placed: Vec<Rule> = Vec::new();
     for at in 0..4 * (count - rules.len()) {
         let rule = if at < leaves {
@@ -254,18 +214,18 @@ fn careful_set(seed: &mut Seed, palette: &Palette, conversions: Vec<Rule>, count
     }
     rules.append(&mut placed);
     seed.shuffle(&mut rules);
-    if seed.percent(1) {
+    if seed.chance(1) {
         rules.clear();
     }
     set_of(palette, rules, seed)
 }
 
 /// No care taken: bodies collide, conversions run in circles.
-fn wild_set(seed: &mut Seed) -> Set {
+fn wild_set(seed: &mut Random) -> Set {
     let palette = small_palette(seed);
     let mut rules = Vec::new();
-    for _ in 0..seed.between(1, 12) {
-        let rule = if seed.percent(30) {
+    for _ in 0..seed.between(1..=12) {
+        let rule = if seed.chance(30) {
             any_conversion(seed, &palette)
         } else {
             compound(seed, &palette, Style::Free, &rules)
@@ -276,12 +236,12 @@ fn wild_set(seed: &mut Seed) -> Set {
 }
 
 /// A chain of three to six conversions into a slot, its links in any order but often the last one first.
-fn chain_set(seed: &mut Seed) -> Set {
-    let links = seed.between(3, 6);
+fn chain_set(seed: &mut Random) -> Set {
+    let links = seed.between(3..=6);
     let palette = palette(seed, links + 3, 4);
     let chain = &palette.typecodes[2..];
     let mut rules: Vec<Rule> = chain.windows(2).map(|t| rule_of(t[0], vec![Slot(t[1])])).collect();
-    if seed.percent(40) {
+    if seed.chance(40) {
         seed.shuffle(&mut rules);
     }
     rules.push(rule_of(chain[links], vec![Constant(palette.constants[0])]));
@@ -296,7 +256,7 @@ fn chain_set(seed: &mut Seed) -> Set {
 }
 
 /// A set that breaks one number of the rule table.
-fn spoilt_set(seed: &mut Seed) -> Set {
+fn spoilt_set(seed: &mut Random) -> Set {
     let mut set = ordinary_set(seed);
     if set.rules.is_empty() {
         set.provable = set.logic;
@@ -305,7 +265,7 @@ fn spoilt_set(seed: &mut Seed) -> Set {
     let at = seed.below(set.rules.len());
     let (provable, logic) = (set.provable, set.logic);
     let rule = &mut set.rules[at];
-    rule.float &= seed.percent(50);
+    rule.float &= seed.chance(50);
     match seed.below(6) {
         0 => *rule = rule_of(rule.result, vec![]),
         1 => rule.result = provable,
@@ -318,7 +278,7 @@ fn spoilt_set(seed: &mut Seed) -> Set {
 }
 
 /// One symbol declared as a variable by two rules.
-fn float_twice(seed: &mut Seed) -> Set {
+fn float_twice(seed: &mut Random) -> Set {
     let mut set = ordinary_set(seed);
     let typecodes: Vec<u32> = set.rules.iter().map(|rule| rule.result).collect();
     let Some(at) = set.rules.iter().position(|rule| rule.float) else {
@@ -340,52 +300,52 @@ fn rule_of(result: u32, body: Vec<Item>) -> Rule {
     }
 }
 
-fn leaf(seed: &mut Seed, palette: &Palette, typecode: usize) -> Rule {
+fn leaf(seed: &mut Random, palette: &Palette, typecode: usize) -> Rule {
     rule_of(palette.typecodes[typecode], vec![Constant(seed.pick(&palette.constants))])
 }
 
 /// Conversions that mostly run downwards along the typecodes, at most one from each: such sets seldom copy a node to itself.
-fn conversions(seed: &mut Seed, palette: &Palette) -> Vec<Rule> {
+fn conversions(seed: &mut Random, palette: &Palette) -> Vec<Rule> {
     let mut rules = Vec::new();
     let share = [0, 40, 70, 100][seed.below(4)];
     for from in 2..palette.typecodes.len() {
-        if seed.percent(share) {
-            let to = if seed.percent(60) { from - 1 } else { seed.between(1, from - 1) };
+        if seed.chance(share) {
+            let to = if seed.chance(60) { from - 1 } else { seed.between(1..=from - 1) };
             rules.push(rule_of(palette.typecodes[to], vec![Slot(palette.typecodes[from])]));
         }
     }
-    if seed.percent(5) {
+    if seed.chance(5) {
         rules.push(any_conversion(seed, palette));
     }
     rules
 }
 
-fn any_conversion(seed: &mut Seed, palette: &Palette) -> Rule {
-    let to = seed.between(1, palette.typecodes.len() - 1);
-    let from = (to + seed.between(1, palette.typecodes.len() - 1)) % palette.typecodes.len();
+fn any_conversion(seed: &mut Random, palette: &Palette) -> Rule {
+    let to = seed.between(1..=palette.typecodes.len() - 1);
+    let from = (to + seed.between(1..=palette.typecodes.len() - 1)) % palette.typecodes.len();
     rule_of(palette.typecodes[to], vec![Slot(palette.typecodes[from])])
 }
 
 /// A rule of two to five items, or with luck of one; its head is often that of an earlier rule.
-fn compound(seed: &mut Seed, palette: &Palette, style: Style, earlier: &[Rule]) -> Rule {
-    let result = if seed.percent(50) {
+fn compound(seed: &mut Random, palette: &Palette, style: Style, earlier: &[Rule]) -> Rule {
+    let result = if seed.chance(50) {
         1
     } else {
-        seed.between(1, palette.typecodes.len() - 1)
+        seed.between(1..=palette.typecodes.len() - 1)
     };
     let mut body = Vec::new();
-    if !earlier.is_empty() && seed.percent(35) {
+    if !earlier.is_empty() && seed.chance(35) {
         let model = &earlier[seed.below(earlier.len())].body;
         body.extend_from_slice(&model[..seed.below(model.len())]);
     }
-    let length = seed.between(body.len() + 1, 5).max(2);
+    let length = seed.between(body.len() + 1..=5).max(2);
     while body.len() < length {
         let slot = match (style, body.len()) {
-            (Style::Prefix, 0) => seed.percent(10),
-            (Style::Prefix, _) => seed.percent(55),
-            (Style::Infix, at) => seed.percent(if at % 2 == 0 { 85 } else { 15 }),
-            (Style::Slots, _) => seed.percent(75),
-            (Style::Free, _) => seed.percent(50),
+            (Style::Prefix, 0) => seed.chance(10),
+            (Style::Prefix, _) => seed.chance(55),
+            (Style::Infix, at) => seed.chance(if at % 2 == 0 { 85 } else { 15 }),
+            (Style::Slots, _) => seed.chance(75),
+            (Style::Free, _) => seed.chance(50),
         };
         body.push(if slot {
             slot_of(seed, palette)
@@ -397,20 +357,20 @@ fn compound(seed: &mut Seed, palette: &Palette, style: Style, earlier: &[Rule]) 
 }
 
 /// A slot, now and then of the provable typecode, which no rule results in.
-fn slot_of(seed: &mut Seed, palette: &Palette) -> Item {
-    let first = usize::from(!seed.percent(2));
+fn slot_of(seed: &mut Random, palette: &Palette) -> Item {
+    let first = usize::from(!seed.chance(2));
     Slot(seed.pick(&palette.typecodes[first..]))
 }
 
 /// Half of the rules that can be, are fed as variables: those of one constant that has no other role.
-fn feed_floats(set: &mut Set, seed: &mut Seed) {
+fn feed_floats(set: &mut Set, seed: &mut Random) {
     let rules = set.rules.clone();
     for (at, rule) in set.rules.iter_mut().enumerate() {
         let [Constant(symbol)] = rule.body[..] else { continue };
         let elsewhere = |other: &Rule| other.result == symbol || other.body.iter().any(|item| item.pair()[1] == symbol);
         let taken = [set.provable, set.logic, rule.result].contains(&symbol)
             || rules.iter().enumerate().any(|(i, other)| i != at && elsewhere(other));
-        rule.float = !taken && seed.percent(50);
+        rule.float = !taken && seed.chance(50);
     }
 }
 
@@ -466,7 +426,7 @@ impl<'a> Sentences<'a> {
         raised
     }
 
-    pub fn grow(&self, seed: &mut Seed) -> Vec<u32> {
+    pub fn grow(&self, seed: &mut Random) -> Vec<u32> {
         match seed.below(1000) {
             0..=9 => self.noise(seed, 0, 1),
             10..=99 => self.noise(seed, 2, 12),
@@ -478,23 +438,23 @@ impl<'a> Sentences<'a> {
         }
     }
 
-    fn noise(&self, seed: &mut Seed, shortest: usize, longest: usize) -> Vec<u32> {
+    fn noise(&self, seed: &mut Random, shortest: usize, longest: usize) -> Vec<u32> {
         let mut statement = Vec::new();
-        for at in 0..seed.between(shortest, longest) {
+        for at in 0..seed.between(shortest..=longest) {
             statement.push(seed.pick(if at == 0 { &self.typecodes } else { &self.tokens }));
         }
         statement
     }
 
-    fn cut(&self, seed: &mut Seed) -> Vec<u32> {
+    fn cut(&self, seed: &mut Random) -> Vec<u32> {
         let mut statement = self.sentence(seed, 1..=5, 30);
-        statement.truncate(seed.between(2, statement.len().max(2)));
+        statement.truncate(seed.between(2..=statement.len().max(2)));
         statement
     }
 
-    fn damaged(&self, seed: &mut Seed) -> Vec<u32> {
+    fn damaged(&self, seed: &mut Random) -> Vec<u32> {
         let mut statement = self.sentence(seed, 1..=5, 30);
-        for _ in 0..seed.between(1, 3) {
+        for _ in 0..seed.between(1..=3) {
             let at = seed.below(statement.len());
             match seed.below(4) {
                 0 if statement.len() > 2 => drop(statement.remove(at)),
@@ -508,8 +468,8 @@ impl<'a> Sentences<'a> {
 
     /// A typecode and a sentence of it, no higher than drawn from `heights` if that can be, and with no choice left once it is longer than
     /// `longest`. Where the typecode has no sentence, noise.
-    fn sentence(&self, seed: &mut Seed, heights: RangeInclusive<usize>, longest: usize) -> Vec<u32> {
-        let mut typecode = if seed.percent(50) {
+    fn sentence(&self, seed: &mut Random, heights: RangeInclusive<usize>, longest: usize) -> Vec<u32> {
+        let mut typecode = if seed.chance(50) {
             self.set.provable
         } else {
             seed.pick(&self.typecodes)
@@ -520,7 +480,7 @@ impl<'a> Sentences<'a> {
             }
         }
         let mut statement = vec![typecode];
-        let height = seed.between(*heights.start(), *heights.end());
+        let height = seed.between(heights.clone());
         if !self.lowest.contains_key(&self.wanted(typecode)) {
             statement.extend(self.noise(seed, 1, 8));
         } else {
@@ -538,11 +498,11 @@ impl<'a> Sentences<'a> {
     }
 
     /// Only typecodes that have a sentence come here.
-    fn tree(&self, seed: &mut Seed, typecode: u32, height: usize, longest: usize, statement: &mut Vec<u32>) {
+    fn tree(&self, seed: &mut Random, typecode: u32, height: usize, longest: usize, statement: &mut Vec<u32>) {
         let fits = |at: &usize| self.set.rules[*at].result == typecode && self.heights[*at].is_some_and(|h| h <= height);
         let mut choice: Vec<usize> = (0..self.set.rules.len()).filter(fits).collect();
         let upwards = if height > 6 { 95 } else { 60 };
-        if seed.percent(upwards) && choice.iter().any(|&at| self.heights[at] > Some(1)) {
+        if seed.chance(upwards) && choice.iter().any(|&at| self.heights[at] > Some(1)) {
             choice.retain(|&at| self.heights[at] > Some(1));
         }
         let at = if choice.is_empty() || statement.len() > longest {
