@@ -8,3 +8,4 @@ pub mod Length
 pub mod Sound
 pub mod Examples
 pub mod Ample
+pub mod Within

@@ -8,7 +8,7 @@ use Prim.Native.Nat.{ℕ, zero, suc, _+_, _*_, _-_, _/_, _≤_, _<_}
 use native.Mathlib.Nat.{sub-zero}
 use native.Mathlib.Omega.{arith}
 use lib.Dec.{leb, ltb}
-use lib.ListN.{length, getD, take, drop}
+use lib.ListN.{length, getD, take, drop, length-append, length-replicate}
 use lib.Seq.{take-at}
 use borrow.Author.Tests.{leb-true, leb-false, ltb-false, not-true, le-ltb}
 use Rattle.words.specs.Limits.{mostTokens, mostNodes, mostEdges, rowWidth}
@@ -23,7 +23,7 @@ use Rattle.rows.specs.Rows.{Edge, edgesOf, edgeWords, find, tablesGood}
 use Rattle.rows.specs.laws.Fair.{RowOk, found, tables-fair}
 use Rattle.rows.specs.laws.Words.{edgeWords-length}
 use Rattle.tree.specs.Grow.{Grown, grow}
-use Rattle.tree.specs.laws.Built.{built-tables-pass}
+use Rattle.tree.specs.laws.Built.{built-inv, built-tables-pass}
 use Rattle.tree.specs.laws.Collide.{Among, first, later, Collision, grow-collides}
 use Rattle.formula.specs.Check.{check}
 use Rattle.formula.specs.Meaning.{Tree}
@@ -35,6 +35,7 @@ use Rattle.walk.specs.laws.Ample.{tables-ok, tables-slim}
 use Rattle.walk.specs.laws.Bound.{walk-bound}
 use Rattle.walk.specs.laws.Frames.{walk-frames}
 use Rattle.walk.specs.laws.Length.{walk-list}
+use Rattle.walk.specs.laws.Within.{walk-within}
 use Rattle.walk.specs.laws.Sound.{walk-checked, walk-unlisted, walk-numbers}
 use Rattle.desk.specs.Entry.{bodyGives, Built, notBuilt, builtBy, buildAfter, buildRoom, buildGives, Parsed, Lent, walkRoom, parsed, theTables, Asked, parseDemands, walkAfter, walkOf, parseGives, verifyDemands, Verified, verifyGives, Means}
 
@@ -306,6 +307,57 @@ refused-zeros-build provable logic rules nodes edges n = after-empty rules nodes
 pub refused-zeros-verify : (provable logic : ℕ) (rules tokens list : List ℕ) (work : ℕ) → verifyGives provable logic rules tokens list work .work-words ≡ zeros work
 unfolding verifyGives
 refused-zeros-verify provable logic rules tokens list work = refl
+
+-- ---- lengths-kept: each slice comes back as long as it was lent, so the list and the tables fit
+
+padded-length : (xs : List ℕ) (n : ℕ) → length xs ≤ n → length (padded xs n) ≡ n
+padded-length xs n h = length-append xs (zeros (n - length xs)) ∙ ap (λ (k : ℕ). length xs + k) (length-replicate (n - length xs) 0) ∙ omega (arith, h)
+
+pub record AsLent (s : Lent) (r : Parsed) : Type 0 where
+  pub frames : length (r .frame-words) ≡ s .frames
+  pub list : length (r .list-words) ≡ s .list
+  pub work : length (r .work-words) ≡ s .work
+
+listed-in : (q : Asked) (a : ℕ) (s : Lent) → length (walkOf q a (walkRoom s) .list) ≤ s .list
+unfolding walkOf
+listed-in q a s = after-by q (λ w. length (w .list) ≤ s .list) a (walkRoom s) (firstFault (parseDemands q))
+    (λ z. omega (arith, walk-within (theTables (q .rules) (q .nodes) (q .edges)) (q .provable) (q .logic) a (walkRoom s) (q .tokens), lesser-le (s .list) (s .work) .0))
+    (λ z. omega arith)
+
+pub lengths-kept-parse : (q : Asked) (a : ℕ) (s : Lent) → AsLent s (parseGives q a s)
+unfolding parseGives parsed
+lengths-kept-parse q a s =
+    record { frames = length-replicate (s .frames) 0; list = padded-length (walkOf q a (walkRoom s) .list) (s .list) (listed-in q a s); work = length-replicate (s .work) 0 }
+
+pub lengths-kept-verify : (provable logic : ℕ) (rules tokens list : List ℕ) (work : ℕ)
+    → length (verifyGives provable logic rules tokens list work .work-words) ≡ work
+unfolding verifyGives
+lengths-kept-verify provable logic rules tokens list work = length-replicate work 0
+
+module _ (provable logic : ℕ) (rules : List ℕ) (nodes edges : ℕ) where
+  abbrev BothKept : Built → Type 0
+  BothKept b = (length (b .node-words) ≡ nodes) × (length (b .edge-words) ≡ edges)
+
+  not-built-kept : (k : ℕ) → BothKept (notBuilt k nodes edges)
+  not-built-kept k = (length-replicate nodes 0, length-replicate edges 0)
+
+  built-kept : rulesGood provable logic rules ≡ true → (o : Res Fault Grown) → grow (buildRoom nodes edges) (theRules rules) ≡ o → BothKept (builtBy nodes edges o)
+  unfolding builtBy
+  built-kept r (no y) h = not-built-kept (faultNumber y)
+  built-kept r (ok g) h =
+      let i = built-inv provable logic rules (buildRoom nodes edges) r g h in (
+        padded-length (g .nodes) nodes (omega (arith, i .nodes-in, lesser-le nodes mostNodes .0)),
+        padded-length (edgeWords (g .edges)) edges (omega (arith, edgeWords-length (g .edges), i .edges-in, lesser-le (edges / rowWidth) mostEdges .0)),
+      )
+
+  after-kept : (k : ℕ) → firstFault (demand (rulesGood provable logic rules) 10 ∷ []) ≡ k → BothKept (buildAfter rules nodes edges k)
+  unfolding buildAfter
+  after-kept zero h = built-kept (clear _ 10 _ (omega arith) h .passed) _ refl
+  after-kept (suc k) h = not-built-kept (suc k)
+
+  pub lengths-kept-build : BothKept (buildGives provable logic rules nodes edges)
+  unfolding buildGives
+  lengths-kept-build = after-kept _ refl
 
 -- ---- built-tables-pass: tables that a build answered 0 for, cut to its counts, are never 8 for a parse with the same rules
 

@@ -72,11 +72,11 @@ module _ (T : Tables) (F : Fair T) (S : Slim T) (goal : ℕ) (statement : List �
       record { most = λ e. absurd (omega arith); never = λ k. absurd (omega (arith, h S, ap length r)) }
   spare a n s i o (halts y (closing w h)) =
       record { most = λ e. absurd (omega arith); never = λ k. absurd (omega (arith, h S, heavy s w)) }
-  spare a n s i o (takes x xs e ts r h) = omega (arith, h S, due-most (e .to) (T .word (e .to)), ap length r)
+  spare a n s i o (takes x xs e ts r h) = omega (arith, h .few S, due-most (e .to) (T .word (e .to)), ap length r)
   spare a n s i o (pushes x xs r w h) = omega (arith, due-inner (s .node) (T .word (s .node)) h, ap length r)
-  spare a n s i o (pops f fs e ts w r h) = omega (arith, h S, due-most (e .to) (T .word (e .to)), heavy s w, ap length r)
-  spare a n s i o (roots t e ts w d h) = omega (arith, h S, due-branch (e .to) (T .word (e .to)) (F .level t e d), heavy s w)
-  spare a n s i o (ends l w c h) = record { most = λ e. omega (arith, heavy s w); never = λ k e. omega arith }
+  spare a n s i o (pops f fs e ts w r h) = omega (arith, h .few S, due-most (e .to) (T .word (e .to)), heavy s w, ap length r)
+  spare a n s i o (roots t e ts w d h) = omega (arith, h .few S, due-branch (e .to) (T .word (e .to)) (F .level t e d), heavy s w)
+  spare a n s i o (ends l w c h) = record { most = λ e. omega (arith, h .few S, heavy s w); never = λ k e. omega arith }
 
   run-listed : (a : ℕ) (s : State) → Spare a 0 s → Listed (run (pass T goal statement) a m 0 s)
   run-listed a s i = run-kept T goal statement m Listed Spare out spare a 0 s i

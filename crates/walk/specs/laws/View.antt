@@ -37,6 +37,11 @@ abbrev pub entries : State → ℕ
 entries s = length (flat (s .trees))
 
 module _ (T : Tables) (goal : ℕ) (statement : List ℕ) (m : Room) where
+  -- a list of n entries after a pass that added at most k, and none past the room
+  pub record Grows (s : State) (n k : ℕ) : Type 0 where
+    pub few : Slim T → n ≤ entries s + k
+    pub fits : entries s ≤ m .list → n ≤ m .list
+
   -- why it is refused
   pub data Cause (s : State) : Why → Type 0 where
     here : (x : ℕ) (xs : List ℕ) → s .rest ≡ x ∷ xs → Cause s (unparseable (s .at))
@@ -50,36 +55,38 @@ module _ (T : Tables) (goal : ℕ) (statement : List ℕ) (m : Room) where
   -- `takes` and `pushes` at a branch with a token left; `pops`, `roots` and `ends` at a leaf
   pub data Pass (s : State) : Res Why Turn → Type 0 where
     halts : (y : Why) → Cause s y → Pass s (no y)
-    takes : (x : ℕ) (xs : List ℕ) (e : Edge) (ts : Trees) → s .rest ≡ x ∷ xs → (Slim T → length (flat ts) ≤ entries s + mostReduces)
+    takes : (x : ℕ) (xs : List ℕ) (e : Edge) (ts : Trees) → s .rest ≡ x ∷ xs → Grows s (length (flat ts)) mostReduces
         → Pass s (ok (on (record { node = e .to; frames = s .frames; trees = ts; rest = xs; at = suc (s .at); last = s .at })))
     pushes : (x : ℕ) (xs : List ℕ) → s .rest ≡ x ∷ xs → T .word (s .node) ≡ 0 → s .node ≢ 0
         → Pass s (ok (on (record { node = 0; frames = s .node ∷ s .frames; trees = s .trees; rest = x ∷ xs; at = s .at; last = s .at })))
     pops : (f : ℕ) (fs : List ℕ) (e : Edge) (ts : Trees) → T .word (s .node) ≢ 0 → s .frames ≡ f ∷ fs
-        → (Slim T → length (flat ts) ≤ entries s + suc mostReduces)
+        → Grows s (length (flat ts)) (suc mostReduces)
         → Pass s (ok (on (record { node = e .to; frames = fs; trees = ts; rest = s .rest; at = s .at; last = s .last })))
     roots : (t : ℕ) (e : Edge) (ts : Trees) → T .word (s .node) ≢ 0 → T .edge 0 1 t ≡ some e
-        → (Slim T → length (flat ts) ≤ entries s + suc mostReduces)
+        → Grows s (length (flat ts)) (suc mostReduces)
         → Pass s (ok (on (record { node = e .to; frames = s .frames; trees = ts; rest = s .rest; at = s .at; last = s .last })))
-    ends : (l : List ℕ) → T .word (s .node) ≢ 0 → check (T .rules) goal statement l ≡ true → length l ≤ entries s + 2 → Pass s (ok (end l))
+    ends : (l : List ℕ) → T .word (s .node) ≢ 0 → check (T .rules) goal statement l ≡ true → Grows s (length l) 2 → Pass s (ok (end l))
 
   -- a refused reduce refuses the pass
   bind-view : (s : State) (ts : Trees) (k : ℕ) (x : Res Why Trees) (f : Trees → Res Why Turn) → Reduced (m .list) ts k x
-      → (m .list < length (flat ts) + k → Cause s noEntry) → ((us : Trees) → length (flat us) ≡ length (flat ts) + k → Pass s (f us))
-      → Pass s (bind x f)
+      → (m .list < length (flat ts) + k → Cause s noEntry) → ((us : Trees) → length (flat us) ≡ length (flat ts) + k
+      → (length (flat ts) ≤ m .list → length (flat us) ≤ m .list) → Pass s (f us)) → Pass s (bind x f)
   unfolding bind
-  bind-view s ts k x f (done us e) c h = h us e
+  bind-view s ts k x f (done us e i) c h = h us e i
   bind-view s ts k x f unfit c h = halts misfit misfits
   bind-view s ts k x f (crowded r) c h = halts noEntry (c r)
 
   -- at a leaf, after its own reduce
-  module _ (s : State) (z : T .word (s .node) ≢ 0) (ts : Trees) (g : length (flat ts) ≡ entries s + 1) where
+  module _ (s : State) (z : T .word (s .node) ≢ 0) (ts : Trees) (g : length (flat ts) ≡ entries s + 1)
+      (i : entries s ≤ m .list → length (flat ts) ≤ m .list) where
     follow-view : (fs : List ℕ) (n t : ℕ) (e : Edge) → T .edge n 1 t ≡ some e
-        → ((us : Trees) → (Slim T → length (flat us) ≤ entries s + suc mostReduces)
+        → ((us : Trees) → Grows s (length (flat us)) (suc mostReduces)
         → Pass s (ok (on (record { node = e .to; frames = fs; trees = us; rest = s .rest; at = s .at; last = s .last }))))
         → Pass s (follow T goal statement m fs s e ts)
     unfolding follow
     follow-view fs n t e h k = bind-view s ts _ _ _ (reduceAll-reduced (T .rules) (m .list) (e .reduces) ts)
-        (λ r. closing z λ slim. omega (arith, r, g, slim n 1 t e h)) λ us d. k us λ slim. omega (arith, d, g, slim n 1 t e h)
+        (λ r. closing z λ slim. omega (arith, r, g, slim n 1 t e h))
+        λ us d j. k us (record { few = λ slim. omega (arith, d, g, slim n 1 t e h); fits = λ l. j (i l) })
 
     rootBy-view : (t : ℕ) (o : Option Edge) → T .edge 0 1 t ≡ o → Pass s (rootBy T goal statement m s ts o)
     unfolding rootBy
@@ -90,7 +97,7 @@ module _ (T : Tables) (goal : ℕ) (statement : List ℕ) (m : Room) where
     unfolding rootStep
     rootStep-view t = rootBy-view t _ refl
 
-    finish-view : (us : Trees) → length (flat us) ≤ entries s + 2 → Pass s (finish T goal statement us)
+    finish-view : (us : Trees) → Grows s (length (flat us)) 2 → Pass s (finish T goal statement us)
     unfolding finish
     finish-view us h = bind-when (Pass s) _ misfit (flat us) _ (halts misfit misfits) λ b. ends (flat us) z (and-r (eqb (length us) 1) _ b) h
 
@@ -98,7 +105,8 @@ module _ (T : Tables) (goal : ℕ) (statement : List ℕ) (m : Room) where
     unfolding convertBy reduce
     convertBy-view t none = rootStep-view t
     convertBy-view t (some c) = bind-view s ts 1 _ _ (reduceBy-reduced (m .list) c 0 ts _)
-        (λ r. closing z λ slim. omega (arith, r, g)) λ us d. finish-view us (omega (arith, d, g))
+        (λ r. closing z λ slim. omega (arith, r, g))
+        λ us d j. finish-view us (record { few = λ slim. omega (arith, d, g); fits = λ l. j (i l) })
 
     unwanted-view : (t : ℕ) (xs : List ℕ) → Pass s (unwanted T goal statement m s t ts xs)
     unfolding unwanted
@@ -113,7 +121,7 @@ module _ (T : Tables) (goal : ℕ) (statement : List ℕ) (m : Room) where
     goalBy-view : (t : ℕ) (xs : List ℕ) (b : Bool) → Pass s (goalBy T goal statement m s t ts xs b)
     unfolding goalBy
     goalBy-view t xs false = unwanted-view t xs
-    goalBy-view t [] true = finish-view ts (omega (arith, g))
+    goalBy-view t [] true = finish-view ts (record { few = λ slim. omega (arith, g); fits = i })
     goalBy-view t (x ∷ xs) true = rootStep-view t
 
     complete-view : (t : ℕ) (fs : List ℕ) → s .frames ≡ fs → Pass s (complete T goal statement m s t fs ts)
@@ -125,7 +133,7 @@ module _ (T : Tables) (goal : ℕ) (statement : List ℕ) (m : Room) where
   unfolding leaf reduce
   leaf-view s z r none = halts misfit misfits
   leaf-view s z r (some q) = bind-view s (s .trees) 1 _ _ (reduceBy-reduced (m .list) r 0 (s .trees) _)
-      (λ c. closing z λ slim. omega (arith, c)) λ ts g. complete-view s z ts g (q .result) (s .frames) refl
+      (λ c. closing z λ slim. omega (arith, c)) λ ts g i. complete-view s z ts g i (q .result) (s .frames) refl
 
   not-or : (a b : Bool) → not (a || b) ≡ true → a ≡ false
   not-or true b h = absurd (false≢true h)
@@ -142,7 +150,7 @@ module _ (T : Tables) (goal : ℕ) (statement : List ℕ) (m : Room) where
     unfolding token follow
     token-view x xs r (some e) h = bind-view s (s .trees) _ _ _ (reduceAll-reduced (T .rules) (m .list) (e .reduces) (s .trees))
         (λ c. taking x xs r λ slim. omega (arith, c, slim (s .node) 0 x e h))
-        λ ts d. takes x xs e ts r λ slim. omega (arith, d, slim (s .node) 0 x e h)
+        λ ts d i. takes x xs e ts r (record { few = λ slim. omega (arith, d, slim (s .node) 0 x e h); fits = i })
     token-view x xs r none h = bind-when (Pass s) _ (unparseable (s .at)) (s .node) _ (halts _ (here x xs r)) λ b.
         push-view s _ _ (λ c. frames x xs r (eqb-false _ _ (not-or _ _ b)) (ltb-false _ _ c)) λ c. pushes x xs r z (eqb-false _ _ (not-or _ _ b))
 
