@@ -6,49 +6,44 @@ mod show;
 mod tables;
 mod text;
 
-fn first(line: &[u8]) -> u8 {
-    if line.len() == 0 {
-        return b'#';
-    }
-    line[0]
-}
-
 // How many fields a line has, the first included; 0 for one that is none of ours.
 fn fields(name: u8) -> usize {
     match name {
         b'c' | b'l' | b'r' | b'n' | b'e' => 2,
-        b'b' | b'p' | b'v' | b's' => 4,
+        b'b' | b'p' | b'v' | b's' => 5,
         _ => 0,
     }
 }
 
-// What a line has come to: a table or a heading, a row as on the sheet, a row that is not, a line that can't be read.
-const SAID: u8 = 0;
+// What a line has come to: no row, a row as on the sheet, one that is not, a line that can't be read. The first bit counts rows, the second those
+// that are not as on the sheet.
+const SAID: u32 = 0;
 
-const SAME: u8 = 1;
+const SAME: u32 = 1;
 
-const OTHER: u8 = 2;
+const OTHER: u32 = 3;
 
-const UNREAD: u8 = 3;
+const UNREAD: u32 = 7;
 
-fn outcome(good: bool, yes: u8, no: u8) -> u8 {
-    if good {
-        return yes;
-    }
-    no
-}
-
-fn row(line: &[u8], name: u8, t: &mut [u32]) -> bool {
+// A row, of which the first field is set.
+fn row(line: &[u8], name: u8, t: &mut [u32]) -> u32 {
     let mut words = [0u32; 16384];
-    let good = tables::set(line, 1, t, tables::ASKED, tables::NOTHING)
-        & text::read(text::piece(line, 2, b'|'), &mut words)
+    let good = text::read(text::piece(line, 2, b'|'), &mut words)
         & tables::set(line, 3, t, tables::ANSWER, tables::RULES);
-    show::say(text::before(line, 3));
-    calls::call(name, t, tables::held(&words, 0)) & good
+    if !good {
+        return UNREAD;
+    }
+    if calls::call(name, t, tables::held(&words, 0)) {
+        return SAME;
+    }
+    OTHER
 }
 
-fn take(line: &[u8], t: &mut [u32]) -> u8 {
-    let name = first(line);
+fn take(line: &[u8], t: &mut [u32]) -> u32 {
+    if line.len() == 0 {
+        return SAID;
+    }
+    let name = line[0];
     if name == b'#' {
         return SAID;
     }
@@ -56,69 +51,53 @@ fn take(line: &[u8], t: &mut [u32]) -> u8 {
     if text::pieces(line, b'|') != n {
         return UNREAD;
     }
-    if n == 4 {
-        return outcome(row(line, name, t), SAME, OTHER);
+    if !tables::set(line, 1, t, tables::start(name), tables::end(name)) {
+        return UNREAD;
     }
-    let set = tables::set(line, 1, t, tables::start(name), tables::end(name));
-    outcome(set, SAID, UNREAD)
+    if n == 2 {
+        return SAID;
+    }
+    row(line, name, t)
 }
 
-fn not_so(line: &[u8]) {
-    show::say(b" | NOT as on the sheet: ");
-    show::say(line);
+fn wrong(v: u32) {
+    if v == UNREAD {
+        show::say(b" | cannot read this line");
+    }
+    show::say(b" | NOT as on the sheet\n");
 }
 
-fn unread(line: &[u8]) {
-    show::say(b"cannot read this line");
-    not_so(line);
-}
-
-fn verdict(line: &[u8], v: u8) {
+fn verdict(v: u32) {
     match v {
-        SAID => show::say(line),
-        SAME => show::say(b" | as on the sheet"),
-        OTHER => not_so(line),
-        _ => unread(line),
+        SAID => show::say(b"\n"),
+        SAME => show::say(b" | as on the sheet\n"),
+        _ => wrong(v),
     }
-    show::say(b"\n");
-}
-
-// The count of rows, and that of rows that are not as on the sheet. A text has fewer lines than a word can count.
-fn rows(n: u32, v: u8) -> u32 {
-    if v == SAID {
-        return n;
-    }
-    std::num::wrapping_add_u32(n, 1)
-}
-
-fn wrong(n: u32, v: u8) -> u32 {
-    if v < OTHER {
-        return n;
-    }
-    std::num::wrapping_add_u32(n, 1)
 }
 
 fn total(rows: u32, wrong: u32) {
-    show::word(rows);
+    io::print_decimal(1, rows as u64);
     show::say(b" rows,");
     show::word(wrong);
     show::say(b" NOT as on the sheet\n");
 }
 
+// A text has fewer lines than a word can count.
 fn run(text: &[u8], t: &mut [u32]) {
     let lines = text::pieces(text, b'\n');
-    let mut n = 0;
-    let mut m = 0;
+    let mut rows = 0;
+    let mut wrong = 0;
     let mut i = 0;
     while i < lines {
         let line = text::piece(text, i, b'\n');
+        show::say(line);
         let v = take(line, t);
-        verdict(line, v);
-        n = rows(n, v);
-        m = wrong(m, v);
+        verdict(v);
+        rows = std::num::wrapping_add_u32(rows, v & 1);
+        wrong = std::num::wrapping_add_u32(wrong, (v / 2) & 1);
         i += 1;
     }
-    total(n, m);
+    total(rows, wrong);
 }
 
 fn main() {

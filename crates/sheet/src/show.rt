@@ -10,41 +10,23 @@ pub fn word(x: u32) {
     io::print_decimal(1, x as u64);
 }
 
-fn words(s: &[u32]) {
-    let mut i = 0;
-    while i < s.len() {
-        word(s[i]);
-        i += 1;
-    }
-}
-
-// A word of no meaning: the largest, or a number that rules and nodes have too.
-fn rubbish(i: usize) -> u32 {
-    match i % 4 {
-        0 => 4294967295,
-        1 => 1,
-        2 => 65536,
-        _ => 2,
-    }
-}
-
-// What stands in a slice before it is lent must not matter.
+// What stands in a slice before it is lent must not matter: the largest word, and one that is a rule, a node and a typecode too.
 fn soil(s: &mut [u32]) {
     let mut i = 0;
     while i < s.len() {
-        s[i] = rubbish(i);
+        s[i] = 1 + 4294967294 * ((i % 2) as u32);
         i += 1;
     }
 }
 
-// So much of a slice as the sheet lends, with words of no meaning.
-pub fn lent<'a>(s: &'a mut [u32], t: &[u32], i: usize) -> &'a mut [u32] {
+// So much of a slice as is to be lent, with words of no meaning in it; nothing where that is too much.
+pub fn lent(s: &mut [u32], count: u32) -> &mut [u32] {
     soil(s);
-    let n = tables::word_at(t, i) as usize;
+    let n = count as usize;
     if n <= s.len() {
         return &mut s[0..n];
     }
-    s
+    &mut s[0..0]
 }
 
 // Whether a slice holds these words, and zeros after them.
@@ -62,25 +44,24 @@ fn holds(s: &[u32], words: &[u32]) -> bool {
     true
 }
 
-// The same; what a slice holds instead is written out.
+// The same, and it is said if not.
 pub fn left(s: &[u32], words: &[u32]) -> bool {
     if holds(s, words) {
         return true;
     }
-    say(b" holds");
-    crate::show::words(s);
+    say(b" | other words in a slice");
     false
 }
 
-// The numbers that came back, and whether they are the four that the sheet has.
+// The numbers that came back, and whether they are the sheet's, which leaves out zeros at the end.
 pub fn told(t: &[u32], a: u32, b: u32, c: u32, d: u32) -> bool {
     word(a);
     word(b);
     word(c);
     word(d);
-    (tables::word_at(t, tables::ANSWER) == 4)
-        & (tables::word_at(t, tables::ANSWER + 1) == a)
-        & (tables::word_at(t, tables::ANSWER + 2) == b)
-        & (tables::word_at(t, tables::ANSWER + 3) == c)
-        & (tables::word_at(t, tables::ANSWER + 4) == d)
+    let want = tables::held(t, tables::ANSWER);
+    (tables::word_at(want, 0) == a)
+        & (tables::word_at(want, 1) == b)
+        & (tables::word_at(want, 2) == c)
+        & (tables::word_at(want, 3) == d)
 }

@@ -1,7 +1,8 @@
 // The tables that the sheet has set, in one slice, each with the count of its words before them.
 use crate::text;
 
-// Where each table starts: the typecodes; the allowance and the words lent; the answer of a row; the rules and their tree; what a row asks.
+// Where each table starts: the typecodes; the allowance and the words lent; the numbers that a row is to give back; the rules and their tree;
+// what a row asks.
 pub const CODES: usize = 0;
 
 pub const LENT: usize = 4;
@@ -10,11 +11,11 @@ pub const ANSWER: usize = 10;
 
 pub const RULES: usize = 16;
 
-pub const NODES: usize = 4096;
+pub const NODES: usize = 8220;
 
-pub const EDGES: usize = 4224;
+pub const EDGES: usize = 8350;
 
-pub const ASKED: usize = 8192;
+pub const ASKED: usize = 12200;
 
 // A table that stays empty.
 pub const NOTHING: usize = 16383;
@@ -41,33 +42,44 @@ pub fn held(t: &[u32], start: usize) -> &[u32] {
     &t[0..0]
 }
 
+pub fn item(t: &[u32], start: usize, i: usize) -> u32 {
+    word_at(held(t, start), i)
+}
+
 pub fn codes(t: &[u32]) -> rules::Codes {
     rules::Codes {
-        provable: words::SymbolNo(word_at(t, CODES + 1)),
-        logic: words::SymbolNo(word_at(t, CODES + 2)),
+        provable: words::SymbolNo(item(t, CODES, 0)),
+        logic: words::SymbolNo(item(t, CODES, 1)),
     }
 }
 
+// Where the table starts that the first words of a line are for, and where it ends at the latest.
 pub fn start(name: u8) -> usize {
     match name {
         b'c' => CODES,
         b'l' => LENT,
         b'r' => RULES,
         b'n' => NODES,
-        _ => EDGES,
+        b'e' => EDGES,
+        _ => ASKED,
     }
 }
 
+// A build asks two numbers, a stretch one.
 pub fn end(name: u8) -> usize {
     match name {
         b'c' => LENT,
         b'l' => ANSWER,
         b'r' => NODES,
         b'n' => EDGES,
-        _ => ASKED,
+        b'e' => ASKED,
+        b'b' => ASKED + 4,
+        b's' => ASKED + 3,
+        _ => NOTHING,
     }
 }
 
+// Field `k` of a line as a table.
 pub fn set(line: &[u8], k: usize, t: &mut [u32], start: usize, end: usize) -> bool {
     if start <= end {
         if end <= t.len() {

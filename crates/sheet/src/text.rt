@@ -4,44 +4,7 @@ ghost use lib.ListN.{length};
 
 // ---- pieces: a line end parts lines, a bar fields, a blank the items of a field, a comma the words of an item
 
-// 1 where a piece ends, 0 elsewhere.
-fn mark(b: u8, by: u8) -> usize
-    ensures { λ r. ⌜ r ≤ 1 ⌝ }
-{
-    if b == by {
-        return 1;
-    }
-    0
-}
-
-pub fn pieces(text: &[u8], by: u8) -> usize
-    ensures { λ r. ⌜ 1 ≤ r ⌝ }
-{
-    let mut n = 1;
-    let mut i = 0;
-    while i < text.len() {
-        n += mark(text[i], by);
-        i += 1;
-    }
-    n
-}
-
-// Where piece `k` starts, counted from 0; the text's end where there is none.
-fn start_of(text: &[u8], k: usize, by: u8) -> usize
-    ensures { λ r. ⌜ r ≤ length (now (text .entry)) ⌝ }
-{
-    let mut left = k;
-    let mut i = 0;
-    while i < text.len() {
-        if left == 0 {
-            return i;
-        }
-        left -= mark(text[i], by);
-        i += 1;
-    }
-    i
-}
-
+// Where the piece ends that has byte `from`.
 fn end_of(text: &[u8], from: usize, by: u8) -> usize
     requires { ⌜ from ≤ length (now text) ⌝ }
     ensures { λ r. ⌜ (from ≤ r) × (r ≤ length (now (text .entry))) ⌝ }
@@ -56,16 +19,32 @@ fn end_of(text: &[u8], from: usize, by: u8) -> usize
     i
 }
 
-pub fn piece(text: &[u8], k: usize, by: u8) -> &[u8] {
-    let start = start_of(text, k, by);
-    let end = end_of(text, start, by);
-    &text[start..end]
+pub fn pieces(text: &[u8], by: u8) -> usize
+    ensures { λ r. ⌜ 1 ≤ r ⌝ }
+{
+    let mut n = 1;
+    let mut end = end_of(text, 0, by);
+    while end < text.len() {
+        n += 1;
+        end = end_of(text, end + 1, by);
+    }
+    n
 }
 
-// The fields before field `k`, with their bars.
-pub fn before(line: &[u8], k: usize) -> &[u8] {
-    let end = start_of(line, k, b'|');
-    &line[0..end]
+// Piece `k`, counted from 0; an empty one where there is none.
+pub fn piece(text: &[u8], k: usize, by: u8) -> &[u8] {
+    let mut left = k;
+    let mut start = 0;
+    let mut end = end_of(text, 0, by);
+    while left > 0 {
+        if end == text.len() {
+            return &text[0..0];
+        }
+        start = end + 1;
+        end = end_of(text, start, by);
+        left -= 1;
+    }
+    &text[start..end]
 }
 
 // ---- words
@@ -76,7 +55,7 @@ const BAD: u64 = 4294967296;
 // What stands after the last word.
 const END: u64 = 4294967297;
 
-// One digit more. `c` and `s` are the words 0 and 1, the kinds of an item and of an edge.
+// One digit more. `c` and `s` are written for 0 and 1 where these are the kinds of an item or of an edge.
 fn longer(n: u64, b: u8) -> u64 {
     if BAD <= n {
         return BAD;
@@ -90,6 +69,9 @@ fn longer(n: u64, b: u8) -> u64 {
 }
 
 fn number(text: &[u8]) -> u64 {
+    if text.len() == 0 {
+        return BAD;
+    }
     let mut n = 0;
     let mut i = 0;
     while i < text.len() {
@@ -104,10 +86,11 @@ fn count(item: &[u8]) -> u64 {
     if item.len() == 0 {
         return 0;
     }
-    if pieces(item, b'*') == 1 {
-        return pieces(item, b',') as u64;
+    match pieces(item, b'*') {
+        1 => pieces(item, b',') as u64,
+        2 => number(piece(item, 1, b'*')),
+        _ => BAD,
     }
-    number(piece(item, 1, b'*'))
 }
 
 // Word `j` of an item, whose words come again and again.
@@ -133,8 +116,7 @@ fn word(text: &[u8], j: u64) -> u64 {
     END
 }
 
-// The words of a field, after their count; whether they could be read. A number is a word, `c` and `s` are 0 and 1, and `7,8*4` are the words
-// 7 8 7 8.
+// The words of a field, after their count; whether they could be read. A number is a word, and `7,8*5` are the words 7 8 7 8 7.
 pub fn read(text: &[u8], out: &mut [u32]) -> bool {
     let mut n = 0;
     let mut i = 1;

@@ -6,69 +6,73 @@ use Rattle.sheet.proofs.run.Statement.{statement}
 use Rattle.sheet.proofs.run.Tie as tie
 use Rattle.sheet.proofs.run.Reads as reads
 use Rattle.sheet.proofs.run.Lts as lts
-use Rattle.sheet.proofs.rows.Reads as rows-reads
+use Rattle.sheet.proofs.show.say.Reads as say-reads
 use Rattle.sheet.proofs.take.Reads as take-reads
 use Rattle.sheet.proofs.text.piece.Reads as piece-reads
 use Rattle.sheet.proofs.text.pieces.Reads as pieces-reads
 use Rattle.sheet.proofs.total.Reads as total-reads
 use Rattle.sheet.proofs.verdict.Reads as verdict-reads
-use Rattle.sheet.proofs.wrong.Reads as wrong-reads
+use Rattle.std.proofs.num.wrapping_add_u32.Reads as wrapping-add-u32-reads
 
 abbrev Inv-loop : tie.InvT-loop
-Inv-loop text t₀ lines n₀ m₀ i₀ t n m i = length t ≡ length t₀
+Inv-loop text t₀ lines rows₀ wrong₀ i₀ t rows wrong i = length t ≡ length t₀
 
 abbrev μ-loop : tie.MeasureT-loop
-μ-loop text t₀ lines n₀ m₀ i₀ t n m i = lines - i
+μ-loop text t₀ lines rows₀ wrong₀ i₀ t rows wrong i = lines - i
 
--- src/main.rt:109:9
+-- src/main.rt:84:9
 pieces-requires : tie.Need-pieces-requires Inv-loop μ-loop
 pieces-requires c κs = search needs
 
--- src/main.rt:113:5
+-- src/main.rt:88:5
 loop-holds : tie.Need-loop-holds Inv-loop μ-loop
 loop-holds c = search needs
 
--- src/main.rt:114:13
+-- src/main.rt:89:13
 piece-requires : tie.Need-piece-requires Inv-loop μ-loop
 piece-requires c κs = search needs
 
--- src/main.rt:115:13
+-- src/main.rt:90:9
+say-requires : tie.Need-say-requires Inv-loop μ-loop
+say-requires c κs = search needs
+
+-- src/main.rt:91:13
 take-requires : tie.Need-take-requires Inv-loop μ-loop
 take-requires c κs = search needs
 
--- src/main.rt:116:9
+-- src/main.rt:92:9
 verdict-requires : tie.Need-verdict-requires Inv-loop μ-loop
 verdict-requires c κs = search needs
 
--- src/main.rt:117:9
-rows-requires : tie.Need-rows-requires Inv-loop μ-loop
-rows-requires c κs = search needs
+-- src/main.rt:93:9
+wrapping-add-u32-requires : tie.Need-wrapping-add-u32-requires Inv-loop μ-loop
+wrapping-add-u32-requires c κs = search needs
 
--- src/main.rt:118:9
-wrong-requires : tie.Need-wrong-requires Inv-loop μ-loop
-wrong-requires c κs = search needs
+-- src/main.rt:94:9
+wrapping-add-u32-requires-2 : tie.Need-wrapping-add-u32-requires-2 Inv-loop μ-loop
+wrapping-add-u32-requires-2 c κs = search needs
 
--- src/main.rt:119:9
+-- src/main.rt:95:9
 add-i : tie.Need-add-i Inv-loop μ-loop
 add-i c = search needs
 
--- src/main.rt:113:5
+-- src/main.rt:88:5
 loop-less : tie.Need-loop-less Inv-loop μ-loop
 loop-less c = search needs
 
--- src/main.rt:113:5
+-- src/main.rt:88:5
 loop-again : tie.Need-loop-again Inv-loop μ-loop
 loop-again c = search needs
 
--- src/main.rt:121:5
+-- src/main.rt:97:5
 total-requires : tie.Need-total-requires Inv-loop μ-loop
 total-requires c κs = search needs
 
--- src/main.rt:108:1
+-- src/main.rt:83:1
 same-length : tie.Need-same-length Inv-loop μ-loop
 same-length c = search needs
 
--- src/main.rt:108:1
+-- src/main.rt:83:1
 returns : tie.Need-returns Inv-loop μ-loop
 returns c = search needs
 
@@ -81,10 +85,11 @@ run-spec =
     pieces-requires
     loop-holds
     piece-requires
+    say-requires
     take-requires
     verdict-requires
-    rows-requires
-    wrong-requires
+    wrapping-add-u32-requires
+    wrapping-add-u32-requires-2
     add-i
     loop-less
     loop-again

@@ -14,33 +14,37 @@ Inv-loop text n₀ i₀ n i = i ≤ length text
 abbrev μ-loop : tie.MeasureT-loop
 μ-loop text n₀ i₀ n i = length text - i
 
--- src/text.rt:95:5
+-- src/text.rt:88:9
+returns : tie.Need-returns Inv-loop μ-loop
+returns c = search needs
+
+-- src/text.rt:92:5
 loop-holds : tie.Need-loop-holds Inv-loop μ-loop
 loop-holds c = search needs
 
--- src/text.rt:96:23
+-- src/text.rt:93:23
 shared-slice-read-longer : tie.Need-shared-slice-read-longer Inv-loop μ-loop
 shared-slice-read-longer c = search needs
 
--- src/text.rt:96:9
+-- src/text.rt:93:9
 longer-requires : tie.Need-longer-requires Inv-loop μ-loop
 longer-requires c κs = search needs
 
--- src/text.rt:97:9
+-- src/text.rt:94:9
 add-i : tie.Need-add-i Inv-loop μ-loop
 add-i c = search needs
 
--- src/text.rt:95:5
+-- src/text.rt:92:5
 loop-less : tie.Need-loop-less Inv-loop μ-loop
 loop-less c = search needs
 
--- src/text.rt:95:5
+-- src/text.rt:92:5
 loop-again : tie.Need-loop-again Inv-loop μ-loop
 loop-again c = search needs
 
--- src/text.rt:92:1
-returns : tie.Need-returns Inv-loop μ-loop
-returns c = search needs
+-- src/text.rt:86:1
+returns-2 : tie.Need-returns-2 Inv-loop μ-loop
+returns-2 c = search needs
 
 pub number-spec : {M : Type 1} → statement M
 number-spec =
@@ -48,10 +52,11 @@ number-spec =
     (tie.spec
     Inv-loop
     μ-loop
+    returns
     loop-holds
     shared-slice-read-longer
     longer-requires
     add-i
     loop-less
     loop-again
-    returns)
+    returns-2)

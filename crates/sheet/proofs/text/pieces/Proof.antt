@@ -6,43 +6,43 @@ use Rattle.sheet.proofs.text.pieces.Statement.{statement}
 use Rattle.sheet.proofs.text.pieces.Tie as tie
 use Rattle.sheet.proofs.text.pieces.Reads as reads
 use Rattle.sheet.proofs.text.pieces.Lts as lts
-use Rattle.sheet.proofs.text.mark.Reads as mark-reads
+use Rattle.sheet.proofs.text.end_of.Reads as end-of-reads
 
 abbrev Inv-loop : tie.InvT-loop
-Inv-loop text by n₀ i₀ n i = (i ≤ length text) × (1 ≤ n) × (n ≤ i + 1)
+Inv-loop text by n₀ end₀ n end = (end ≤ length text) × (1 ≤ n) × (n ≤ end + 1)
 
 abbrev μ-loop : tie.MeasureT-loop
-μ-loop text by n₀ i₀ n i = length text - i
+μ-loop text by n₀ end₀ n end = length text - end
 
--- src/text.rt:22:5
+-- src/text.rt:26:9
+end-of-requires : tie.Need-end-of-requires Inv-loop μ-loop
+end-of-requires c κs = search needs
+
+-- src/text.rt:27:5
 loop-holds : tie.Need-loop-holds Inv-loop μ-loop
 loop-holds c = search needs
 
--- src/text.rt:23:19
-shared-slice-read-mark : tie.Need-shared-slice-read-mark Inv-loop μ-loop
-shared-slice-read-mark c = search needs
-
--- src/text.rt:23:14
-mark-requires : tie.Need-mark-requires Inv-loop μ-loop
-mark-requires c κs = search needs
-
--- src/text.rt:23:9
+-- src/text.rt:28:9
 add-n : tie.Need-add-n Inv-loop μ-loop
 add-n c = search needs
 
--- src/text.rt:24:9
-add-i : tie.Need-add-i Inv-loop μ-loop
-add-i c = search needs
+-- src/text.rt:29:28
+add-end-of : tie.Need-add-end-of Inv-loop μ-loop
+add-end-of c = search needs
 
--- src/text.rt:22:5
+-- src/text.rt:29:9
+end-of-requires-2 : tie.Need-end-of-requires-2 Inv-loop μ-loop
+end-of-requires-2 c κs = search needs
+
+-- src/text.rt:27:5
 loop-less : tie.Need-loop-less Inv-loop μ-loop
 loop-less c = search needs
 
--- src/text.rt:22:5
+-- src/text.rt:27:5
 loop-again : tie.Need-loop-again Inv-loop μ-loop
 loop-again c = search needs
 
--- src/text.rt:17:1
+-- src/text.rt:22:1
 returns : tie.Need-returns Inv-loop μ-loop
 returns c = search needs
 
@@ -52,11 +52,11 @@ pieces-spec =
     (tie.spec
     Inv-loop
     μ-loop
+    end-of-requires
     loop-holds
-    shared-slice-read-mark
-    mark-requires
     add-n
-    add-i
+    add-end-of
+    end-of-requires-2
     loop-less
     loop-again
     returns)
