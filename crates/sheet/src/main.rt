@@ -1,10 +1,17 @@
-// Runs the training sheet through the entry points. The sheet is the standard input. A line of it sets a table, or is a row: a call, and all that
-// is to come back. Each line is written out again, a row with the numbers that did come back and whether they, and every lent word, are as on
-// the sheet. The first letter of a line says what it is.
+// Runs the training sheet through the entry points. The sheet is the standard input. A line of it sets a table, or is a row: a call, and
+// all that is to come back. Each line is written out again, a row with the numbers that did come back and whether they, and every lent
+// word, are as on the sheet. The first letter of a line says what it is.
 mod calls;
 mod show;
 mod tables;
 mod text;
+
+fn first(line: &[u8]) -> u8 {
+    if line.len() == 0 {
+        return b'#';
+    }
+    line[0]
+}
 
 // How many fields a line has, the first included; 0 for one that is none of ours.
 fn fields(name: u8) -> usize {
@@ -15,8 +22,8 @@ fn fields(name: u8) -> usize {
     }
 }
 
-// What a line has come to: no row, a row as on the sheet, one that is not, a line that can't be read. The first bit counts rows, the second those
-// that are not as on the sheet.
+// What a line has come to: no row, a row as on the sheet, one that is not, a line that can't be read. The first bit counts rows, the
+// second those that are not as on the sheet.
 const SAID: u32 = 0;
 
 const SAME: u32 = 1;
@@ -25,12 +32,10 @@ const OTHER: u32 = 3;
 
 const UNREAD: u32 = 7;
 
-// A row, of which the first field is set.
-fn row(line: &[u8], name: u8, t: &mut [u32]) -> u32 {
-    let mut words = [0u32; 16384];
-    let good = text::read(text::piece(line, 2, b'|'), &mut words)
-        & tables::set(line, 3, t, tables::ANSWER, tables::RULES);
-    if !good {
+// A row's call, with the list or body of its second field.
+fn compare(name: u8, t: &[u32], field: &[u8]) -> u32 {
+    let mut words = [0u32; show::MOST];
+    if !text::read(field, &mut words) {
         return UNREAD;
     }
     if calls::call(name, t, tables::held(&words, 0)) {
@@ -39,22 +44,28 @@ fn row(line: &[u8], name: u8, t: &mut [u32]) -> u32 {
     OTHER
 }
 
-fn take(line: &[u8], t: &mut [u32]) -> u32 {
-    if line.len() == 0 {
-        return SAID;
+// A row, of which the asked words are set; nothing stands after its last bar.
+fn row(line: &[u8], name: u8, t: &mut [u32]) -> u32 {
+    let good = tables::set(line, 3, t, tables::ANSWER, tables::RULES)
+        & (text::piece(line, 4, b'|').len() == 0);
+    if !good {
+        return UNREAD;
     }
-    let name = line[0];
+    compare(name, t, text::piece(line, 2, b'|'))
+}
+
+// Does what a line says, and tells what that has come to.
+fn take(line: &[u8], t: &mut [u32]) -> u32 {
+    let name = first(line);
     if name == b'#' {
         return SAID;
     }
-    let n = fields(name);
-    if text::pieces(line, b'|') != n {
+    let good = (text::pieces(line, b'|') == fields(name))
+        & tables::set(line, 1, t, tables::start(name), tables::end(name));
+    if !good {
         return UNREAD;
     }
-    if !tables::set(line, 1, t, tables::start(name), tables::end(name)) {
-        return UNREAD;
-    }
-    if n == 2 {
+    if fields(name) == 2 {
         return SAID;
     }
     row(line, name, t)
@@ -82,7 +93,7 @@ fn total(rows: u32, wrong: u32) {
     show::say(b" NOT as on the sheet\n");
 }
 
-// A text has fewer lines than a word can count.
+// Line after line, and the counts. A text has fewer lines than a word can count.
 fn run(text: &[u8], t: &mut [u32]) {
     let lines = text::pieces(text, b'\n');
     let mut rows = 0;

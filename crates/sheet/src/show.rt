@@ -10,18 +10,17 @@ pub fn word(x: u32) {
     io::print_decimal(1, x as u64);
 }
 
-// What stands in a slice before it is lent must not matter: the largest word, and one that is a rule, a node and a typecode too.
-fn soil(s: &mut [u32]) {
+// The most words that a slice here has: 64 KiB.
+pub const MOST: usize = 16384;
+
+// So much of a slice as is to be lent; nothing where that is too much. What stands in it must not matter: the largest word, and one that
+// is a rule, a node and a typecode too.
+pub fn lent(s: &mut [u32], count: u32) -> &mut [u32] {
     let mut i = 0;
     while i < s.len() {
-        s[i] = 1 + 4294967294 * ((i % 2) as u32);
+        s[i] = 4294967295 - 4294967294 * ((i % 2) as u32);
         i += 1;
     }
-}
-
-// So much of a slice as is to be lent, with words of no meaning in it; nothing where that is too much.
-pub fn lent(s: &mut [u32], count: u32) -> &mut [u32] {
-    soil(s);
     let n = count as usize;
     if n <= s.len() {
         return &mut s[0..n];

@@ -1,8 +1,8 @@
 // The tables that the sheet has set, in one slice, each with the count of its words before them.
 use crate::text;
 
-// Where each table starts: the typecodes; the allowance and the words lent; the numbers that a row is to give back; the rules and their tree;
-// what a row asks.
+// Where each table starts: the typecodes; the allowance and the words lent; the numbers that a row is to give back; the rules and their
+// tree; what a row asks.
 pub const CODES: usize = 0;
 
 pub const LENT: usize = 4;
@@ -53,7 +53,7 @@ pub fn codes(t: &[u32]) -> rules::Codes {
     }
 }
 
-// Where the table starts that the first words of a line are for, and where it ends at the latest.
+// The table that a line's own words go to: where it starts, and where the next one does.
 pub fn start(name: u8) -> usize {
     match name {
         b'c' => CODES,
@@ -65,7 +65,7 @@ pub fn start(name: u8) -> usize {
     }
 }
 
-// A build asks two numbers, a stretch one.
+// A build asks by two numbers, a stretch by one.
 pub fn end(name: u8) -> usize {
     match name {
         b'c' => LENT,

@@ -2,7 +2,7 @@
 ghost use Prim.Native.Nat.{_≤_};
 ghost use lib.ListN.{length};
 
-// ---- pieces: a line end parts lines, a bar fields, a blank the items of a field, a comma the words of an item
+// ---- pieces: a line end parts lines, a bar parts fields, a blank the items of a field, a comma the words of an item
 
 // Where the piece ends that has byte `from`.
 fn end_of(text: &[u8], from: usize, by: u8) -> usize
@@ -49,11 +49,11 @@ pub fn piece(text: &[u8], k: usize, by: u8) -> &[u8] {
 
 // ---- words
 
-// More than any word: what can't be read stands for this.
+// From here on no number is a word: what can't be read.
 const BAD: u64 = 4294967296;
 
-// What stands after the last word.
-const END: u64 = 4294967297;
+// After the last word; no number of the text gets so large.
+const END: u64 = 1099511627776;
 
 // One digit more. `c` and `s` are written for 0 and 1 where these are the kinds of an item or of an edge.
 fn longer(n: u64, b: u8) -> u64 {
@@ -100,6 +100,7 @@ fn word_of(item: &[u8], j: u64) -> u64 {
     number(piece(words, (j % n) as usize, b','))
 }
 
+// Word `j` of a field.
 fn word(text: &[u8], j: u64) -> u64 {
     let items = pieces(text, b' ');
     let mut left = j;
