@@ -176,9 +176,9 @@ pub fn count(rules: &[u32]) -> u32
     ensures { λ r. ⌜ r ≡ length (theRules (now (rules .entry))) ⌝ }
 {
     let mut n = 0;
-    let mut i = 0;
-    while i < rules.len() {
-        i += size_of(&rules[i..]);
+    let mut at = 0;
+    while at < rules.len() {
+        at += size_of(&rules[at..]);
         n += 1;
     }
     n

@@ -2,16 +2,13 @@
 
 use crate::grown::{collide, Set};
 use crate::oracle::{Answers, Asked, Build, Edge, Node, Parse, Said, Tree};
+use crate::tables;
+use jiehkavon::limits::{MOST_EDGES, MOST_NODES, MOST_RULES, MOST_TOKENS, ROW_WIDTH};
 use jiehkavon::words::{self, Answer};
 use std::collections::{BTreeMap, HashSet};
 
 /// What stands in every lent word before a call, so that a word that isn't written shows.
 const STALE: u32 = 0xABAD_1DEA;
-const EDGE_WORDS: usize = 16;
-const MOST_RULES: usize = 2_048;
-const MOST_NODES: usize = 8_192;
-const MOST_EDGES: usize = 16_384;
-const MOST_TOKENS: usize = 4_097;
 
 /// What a pair of answers means.
 #[derive(Clone, Copy, Debug, PartialEq, Eq, PartialOrd, Ord)]
@@ -88,13 +85,12 @@ fn room(set: &Set) -> (usize, usize) {
 fn grow(set: &Set, rules: &[u32]) -> Grown {
     let (nodes, edges) = room(set);
     let mut nodes = vec![STALE; nodes];
-    let mut edges = vec![STALE; edges * EDGE_WORDS];
+    let mut edges = vec![STALE; edges * ROW_WIDTH];
     let built = words::build(set.provable, set.logic, rules, &mut nodes, &mut edges);
-    let (past_nodes, past_edges) = (built.nodes as usize, built.edges as usize * EDGE_WORDS);
+    let (past_nodes, past_edges) = (built.nodes as usize, built.edges as usize * ROW_WIDTH);
     let rest = nodes.iter().skip(past_nodes).chain(edges.iter().skip(past_edges));
     let clean = rest.copied().all(|word| word == 0) && (built.number == 0 || (built.nodes, built.edges) == (0, 0));
-    nodes.truncate(past_nodes);
-    edges.truncate(past_edges);
+    tables::cut(built, &mut nodes, &mut edges);
     Grown {
         number: built.number,
         nodes,
@@ -117,7 +113,7 @@ fn tree_of(set: &Set, grown: &Grown) -> Option<Tree> {
         }
     };
     let nodes = grown.nodes.iter().map(node).collect::<Option<_>>()?;
-    let mut edges: Vec<Edge> = grown.edges.chunks(EDGE_WORDS).map(edge_of).collect::<Option<_>>()?;
+    let mut edges: Vec<Edge> = grown.edges.chunks(ROW_WIDTH).map(edge_of).collect::<Option<_>>()?;
     edges.sort();
     Some(Tree { nodes, edges })
 }

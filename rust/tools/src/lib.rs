@@ -5,4 +5,5 @@ pub mod inputs;
 pub mod metamath;
 pub mod oracle;
 pub mod random;
+pub mod tables;
 pub mod vectors;

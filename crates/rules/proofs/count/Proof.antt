@@ -17,23 +17,23 @@ Inv-loop rules n₀ i₀ n i = (i ≤ length rules) × Ahead rules i n
 abbrev μ-loop : tie.MeasureT-loop
 μ-loop rules n₀ i₀ n i = length rules - i
 
-here : (c : tie.In-loop Inv-loop μ-loop) → Here (now (c .before .before .before .args .rules)) (c .before .loop .i) (c .before .loop .n)
+here : (c : tie.In-loop Inv-loop μ-loop) → Here (now (c .before .before .before .args .rules)) (c .before .loop .at) (c .before .loop .n)
 here c =
     let l = c .before .loop in
-    ahead-here (now (c .before .before .before .args .rules)) (l .i) (l .n) (l .inv .1) (c .loop-test .taken)
+    ahead-here (now (c .before .before .before .args .rules)) (l .at) (l .n) (l .inv .1) (c .loop-test .taken)
 
 size-of-requires : tie.Need-size-of-requires Inv-loop μ-loop
 size-of-requires c κs =
     let l = c .before .before .loop in
     let ws = now (c .before .before .before .before .args .rules) in
-    rw (part-all ws (l .i)) (omega (arith, length-drop (l .i) ws, here (c .before) .two))
+    rw (part-all ws (l .at)) (omega (arith, length-drop (l .at) ws, here (c .before) .two))
 
 -- the size of the rule at the loop's place
-size : (c : tie.After-size-of Inv-loop μ-loop) → c .size-of .result ≡ sizeOf (drop (c .before .before .before .loop .i) (now (c .before .before .before .before .before .args .rules)))
-size c = part-size-of (now (c .before .before .before .before .before .args .rules)) (c .before .before .before .loop .i) (c .size-of .ensures)
+size : (c : tie.After-size-of Inv-loop μ-loop) → c .size-of .result ≡ sizeOf (drop (c .before .before .before .loop .at) (now (c .before .before .before .before .before .args .rules)))
+size c = part-size-of (now (c .before .before .before .before .before .args .rules)) (c .before .before .before .loop .at) (c .size-of .ensures)
 
-add-i : tie.Need-add-i Inv-loop μ-loop
-add-i c = omega (arith, size c, here (c .before .before) .fits)
+add-at : tie.Need-add-at Inv-loop μ-loop
+add-at c = omega (arith, size c, here (c .before .before) .fits)
 
 loop-less : tie.Need-loop-less Inv-loop μ-loop
 loop-less c = omega (arith, size c, here (c .before .before) .fits)
@@ -46,7 +46,7 @@ loop-again c =
 returns : tie.Need-returns Inv-loop μ-loop
 returns c =
     let l = c .before .loop in
-    ahead-end (now (c .before .before .before .args .rules)) (l .i) (l .n) (l .inv .1) (search needs)
+    ahead-end (now (c .before .before .before .args .rules)) (l .at) (l .n) (l .inv .1) (search needs)
 
 pub count-spec : {M : Type 1} → statement M
 count-spec =
@@ -60,7 +60,7 @@ count-spec =
     (λ c. search needs)
     (λ c. search needs)
     size-of-requires
-    add-i
+    add-at
     (λ c. omega (arith, here (c .before .before) .counted, rules-most 2048 (now (c .before .before .before .before .before .args .rules))))
     loop-less
     loop-again

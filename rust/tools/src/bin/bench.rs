@@ -8,14 +8,13 @@ use std::fs::File;
 use std::hint::black_box;
 use std::process::{Command, ExitCode, Stdio};
 use tools::metamath::Database;
+use tools::tables;
 
 const REPETITIONS: usize = 7;
 /// A repetition goes on for about so many nanoseconds, or for one call if that takes longer.
 const LEAST: f64 = 4e7;
 /// Of a database's statements one in so many is used.
 const STEP: usize = 100;
-const NODES: usize = 8192;
-const EDGE_WORDS: usize = 16 * 16384;
 
 // ---- what is timed
 
@@ -65,11 +64,10 @@ struct Case {
 
 impl Case {
     fn new(provable: u32, logic: u32, rules: Vec<u32>, statements: Vec<Vec<u32>>) -> Self {
-        let (mut nodes, mut edges) = (vec![0; NODES], vec![0; EDGE_WORDS]);
+        let (mut nodes, mut edges) = tables::longest();
         let built = jiehkavon::words::build(provable, logic, &rules, &mut nodes, &mut edges);
         assert_eq!(built.number, 0, "the rules build");
-        nodes.truncate(built.nodes as usize);
-        edges.truncate(16 * built.edges as usize);
+        tables::cut(built, &mut nodes, &mut edges);
         Case {
             provable,
             logic,

@@ -9,9 +9,8 @@ use std::io::Write as _;
 use std::process::{Command, ExitCode, Stdio};
 use std::time::{Duration, Instant};
 use tools::metamath::{Command as After, Database, Statement};
+use tools::tables;
 
-const NODES: usize = 8192;
-const EDGE_WORDS: usize = 16 * 16384;
 const HEADINGS: [&str; 12] = [
     "database",
     "symbols",
@@ -39,12 +38,12 @@ struct Grammar<'a> {
 
 impl<'a> Grammar<'a> {
     fn new(database: &'a Database) -> Self {
-        let (rules, mut nodes, mut edges) = (database.rule_words(), vec![0; NODES], vec![0; EDGE_WORDS]);
+        let rules = database.rule_words();
+        let (mut nodes, mut edges) = tables::longest();
         let start = Instant::now();
         let built = words::build(database.provable, database.logic, &rules, &mut nodes, &mut edges);
         let time = start.elapsed();
-        nodes.truncate(built.nodes as usize);
-        edges.truncate(16 * built.edges as usize);
+        tables::cut(built, &mut nodes, &mut edges);
         Grammar {
             database,
             rules,
