@@ -1,6 +1,25 @@
--- The numbers given back, and their places. 0 is accepted or built; 1, 8, 9 and 10 are said before a walk or a build begins;
--- 5 is the allowance's, and no pass's.
+-- The numbers given back, and their places.
 use Prim.Native.Nat.{ℕ}
+
+-- the numbers of an entry point itself: accepted or built; refused before a walk or a build begins; and 5, which no pass says: it is the
+-- allowance's
+abbrev pub accepted : ℕ
+accepted = 0
+
+abbrev pub tooFewTokens : ℕ
+tooFewTokens = 1
+
+abbrev pub noPass : ℕ
+noPass = 5
+
+abbrev pub badTables : ℕ
+badTables = 8
+
+abbrev pub tooManyTokens : ℕ
+tooManyTokens = 9
+
+abbrev pub badRules : ℕ
+badRules = 10
 
 -- why a pass is refused
 pub data Why : Type 0 where

@@ -3,6 +3,7 @@ use mathlib.Core.Bool.{Bool, true, false, _&&_}
 use mathlib.Core.List.{List, [], _∷_}
 use Prim.Native.Nat.{ℕ, zero, suc}
 use lib.Dec.{eqb, leb}
+use Rattle.words.specs.Numbers.{accepted}
 
 pub data Res (E A : Type 0) : Type 0 where
   ok : A → Res E A
@@ -34,9 +35,9 @@ pub record Demand : Type 0 where
 abbrev pub demand : Bool → ℕ → Demand
 demand b k = record { test = b; number = k }
 
--- the number of the first demand that fails: 0 if none does
+-- the number of the first demand that fails
 unfoldable pub firstFault : List Demand → ℕ
-firstFault [] = 0
+firstFault [] = accepted
 firstFault (d ∷ ds) = elim (d .test) [ true ↦ firstFault ds | false ↦ d .number ]
 
 -- the same words, in the same order

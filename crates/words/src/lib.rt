@@ -1,4 +1,4 @@
-// The limits, one type for each kind of number, and writing to a lent slice.
+// The limits, the numbers given back, one type for each kind of number, and writing to a lent slice.
 ghost use mathlib.Core.Path.{_≡_};
 ghost use Prim.Native.Nat.{_≤_, _<_};
 ghost use lib.ListN.{length};
@@ -25,6 +25,39 @@ pub const MOST_OFFSET: u32 = 255;
 pub const MOST_TOKENS: usize = 4097;
 // The words of an edge.
 pub const ROW_WIDTH: usize = 16;
+
+// The numbers given back.
+pub const ACCEPTED: u32 = 0;
+
+pub const TOO_FEW_TOKENS: u32 = 1;
+
+pub const UNPARSEABLE: u32 = 2;
+
+pub const TOO_SHORT: u32 = 3;
+
+pub const MISFIT: u32 = 4;
+
+pub const NO_PASS: u32 = 5;
+
+pub const NO_FRAME: u32 = 6;
+
+pub const NO_ENTRY: u32 = 7;
+
+pub const BAD_TABLES: u32 = 8;
+
+pub const TOO_MANY_TOKENS: u32 = 9;
+
+pub const BAD_RULES: u32 = 10;
+
+pub const COLLIDES: u32 = 11;
+
+pub const NO_NODE: u32 = 12;
+
+pub const NO_EDGE: u32 = 13;
+
+pub const SIXTH_REDUCE: u32 = 14;
+
+pub const BAD_COPY: u32 = 16;
 
 pub struct RuleNo(pub u32);
 
