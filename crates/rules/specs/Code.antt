@@ -8,12 +8,14 @@ use lib.ListN.{length, drop}
 use Rattle.words.specs.Limits.{mostRules}
 use Rattle.words.specs.Outcome.{pick}
 use Rattle.words.specs.declared.RuleNo.{RuleNo}
-use Rattle.rules.specs.Rules.{sizeOf, theRules, ruleOf, ruleAt, goodRule, goodRules, rulesGood, Stretch, noStretch, stretchFrom}
+use Rattle.rules.specs.Rules.{Item, con, slot, sizeOf, theRules, ruleOf, ruleAt, goodRule, goodRules, rulesGood, Stretch, noStretch, stretchFrom}
 use Rattle.rules.specs.declared.Codes.{Codes}
 use Rattle.rules.specs.declared.First.{First}
 use Rattle.rules.specs.declared.First.the-variants.{Size, Bad}
 use Rattle.rules.specs.declared.Start.{Start}
 use Rattle.rules.specs.declared.Start.the-variants.{At, Nothing}
+use Rattle.rules.specs.declared.Item as coded
+use Rattle.rules.specs.declared.Item.the-variants.{Con, Slot}
 use Rattle.rules.specs.declared.Conversion.{Conversion}
 use Rattle.rules.specs.declared.Conversion.the-variants.{From, No}
 use Rattle.rules.specs.declared.Stretch as declared
@@ -44,6 +46,11 @@ pub record Missing (ws : List ℕ) (n : ℕ) : Type 0 where
 abbrev pub Found : List ℕ → ℕ → Start → Type 0
 Found ws n (At i) = Starts ws n i
 Found ws n Nothing = Missing ws n
+
+-- an item that the code holds
+abbrev pub itemIs : coded.Item → Item
+itemIs (Con c) = con (c .0)
+itemIs (Slot t) = slot (t .0)
 
 -- a conversion's source
 abbrev pub sourceOf : Conversion → Option ℕ

@@ -6,7 +6,7 @@ use mathlib.Core.List.{List, [], _∷_, _++_}
 use mathlib.Core.Option.{Option, none, some}
 use lib.Dec.{leb, ltb, eqb}
 use lib.ListN.{length, getD, take, drop, getElem?}
-use Rattle.words.specs.Limits.{mostSymbol, mostItems, itemWidth, mostRules}
+use Rattle.words.specs.Limits.{mostSymbol, mostItems, mostRules}
 use Rattle.words.specs.Outcome.{pick}
 
 -- one place of a body
@@ -19,6 +19,10 @@ pub record Rule : Type 0 where
   pub body : List Item
 
 -- ---- what the words say
+
+-- the words of an item: its kind and its symbol
+abbrev pub itemWidth : ℕ
+itemWidth = 2
 
 -- the words of the rule that stands first, those of its body, and what follows it
 abbrev pub sizeOf : List ℕ → ℕ

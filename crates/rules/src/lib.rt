@@ -1,11 +1,15 @@
 // Rules as a slice of words: the rule check, where a rule starts, and what stands there.
 ghost use mathlib.Core.Path.{_≡_};
 ghost use mathlib.Core.Bool.{true};
+ghost use mathlib.Core.Option.{some};
 ghost use Prim.Native.Nat.{_+_, _*_, _≤_, _<_};
-ghost use lib.ListN.{length};
-ghost use Rattle.words.specs.Limits.{mostItems, itemWidth, mostRules};
-ghost use Rattle.rules.specs.Rules.{sizeOf, bodyWords, itemsOf, theRules, ruleOf, slots, source, symbol, goodItems, goodHead, equalEnds, goodRules, rulesGood, cut};
-ghost use Rattle.rules.specs.Code.{firstOf, aRule, someRules, Found, sourceOf, stretchOf, bodyIn};
+ghost use lib.ListN.{length, getElem?};
+ghost use Rattle.words.specs.Limits.{mostItems, mostRules};
+ghost use Rattle.rules.specs.Rules.{itemWidth, sizeOf, bodyWords, itemsOf, theRules, ruleOf, slots, source, symbol, goodItems, goodHead, equalEnds, goodRules, rulesGood, cut};
+ghost use Rattle.rules.specs.Code.{firstOf, aRule, someRules, Found, itemIs, sourceOf, stretchOf, bodyIn};
+
+// The words of an item: its kind and its symbol.
+const ITEM_WIDTH: usize = 2;
 
 // The two typecodes that come with the rules.
 pub struct Codes {
@@ -23,6 +27,12 @@ pub enum First {
 pub enum Start {
     At(usize),
     Nothing,
+}
+
+// One place of a body.
+pub enum Item {
+    Con(words::SymbolNo),
+    Slot(words::SymbolNo),
 }
 
 // The typecode that a conversion goes from.
@@ -56,7 +66,7 @@ fn good_items(body: &[u32]) -> bool
 {
     let mut i = 0;
     while i < body.len() {
-        if body.len() - i < words::ITEM_WIDTH {
+        if body.len() - i < ITEM_WIDTH {
             return false;
         }
         if 1 < body[i] {
@@ -65,19 +75,19 @@ fn good_items(body: &[u32]) -> bool
         if !symbol(body[i + 1]) {
             return false;
         }
-        i += words::ITEM_WIDTH;
+        i += ITEM_WIDTH;
     }
     true
 }
 
 // Whether a rule may have this result and so many items.
-fn good_head(provable: words::SymbolNo, result: u32, items: u32) -> bool
-    ensures { λ r. ⌜ r ≡ goodHead (provable .0) result items ⌝ }
+fn good_head(provable: words::SymbolNo, result: words::SymbolNo, items: u32) -> bool
+    ensures { λ r. ⌜ r ≡ goodHead (provable .0) (result .0) items ⌝ }
 {
-    if result == provable.0 {
+    if result.0 == provable.0 {
         return false;
     }
-    if !symbol(result) {
+    if !symbol(result.0) {
         return false;
     }
     if items < 1 {
@@ -91,7 +101,7 @@ pub fn size_of(s: &[u32]) -> usize
     requires { ⌜ 1 < length (now s) ⌝ }
     ensures { λ r. ⌜ r ≡ sizeOf (now (s .entry)) ⌝ }
 {
-    2 + words::ITEM_WIDTH * (s[1] as usize)
+    2 + ITEM_WIDTH * (s[1] as usize)
 }
 
 // Whether the rule that stands first turns a typecode into itself.
@@ -115,7 +125,7 @@ fn good_rule(s: &[u32], provable: words::SymbolNo) -> First
     if s.len() < 2 {
         return First::Bad;
     }
-    if !good_head(provable, s[0], s[1]) {
+    if !good_head(provable, words::SymbolNo(s[0]), s[1]) {
         return First::Bad;
     }
     let size = size_of(s);
@@ -202,6 +212,44 @@ pub fn find_rule(rules: &[u32], no: words::RuleNo) -> Start
     Start::Nothing
 }
 
+// ---- the items of a body
+
+// How many there are.
+pub fn items_in(body: &[u32]) -> usize
+    ensures { λ r. ⌜ r ≡ length (itemsOf (now (body .entry))) ⌝ }
+{
+    body.len() / ITEM_WIDTH
+}
+
+// Item number `k`, from 0.
+pub fn item_in(body: &[u32], k: usize) -> Item
+    requires { ⌜ k < length (itemsOf (now body)) ⌝ }
+    ensures { λ r. ⌜ getElem? (itemsOf (now (body .entry))) k ≡ some (itemIs r) ⌝ }
+{
+    let at = ITEM_WIDTH * k;
+    let symbol = words::SymbolNo(body[at + 1]);
+    if body[at] == 0 {
+        return Item::Con(symbol);
+    }
+    Item::Slot(symbol)
+}
+
+// The slots among them.
+fn slots_in(body: &[u32]) -> u32
+    requires { ⌜ (goodItems (now body) ≡ true) × (length (now body) ≤ itemWidth * mostItems) ⌝ }
+    ensures { λ r. ⌜ r ≡ slots (itemsOf (now (body .entry))) ⌝ }
+{
+    let mut n: u32 = 0;
+    let mut i = 0;
+    while i < body.len() {
+        if body[i] == 1 {
+            n += 1;
+        }
+        i += ITEM_WIDTH;
+    }
+    n
+}
+
 // ---- the rule that stands first in a slice
 
 pub fn result_of(s: &[u32]) -> words::SymbolNo
@@ -218,22 +266,6 @@ pub fn body_of(s: &[u32]) -> &[u32]
 {
     let size = size_of(s);
     &s[2..size]
-}
-
-// The slots among a body's items.
-fn slots_in(body: &[u32]) -> u32
-    requires { ⌜ (goodItems (now body) ≡ true) × (length (now body) ≤ itemWidth * mostItems) ⌝ }
-    ensures { λ r. ⌜ r ≡ slots (itemsOf (now (body .entry))) ⌝ }
-{
-    let mut n: u32 = 0;
-    let mut i = 0;
-    while i < body.len() {
-        if body[i] == 1 {
-            n += 1;
-        }
-        i += words::ITEM_WIDTH;
-    }
-    n
 }
 
 pub fn slots_of(s: &[u32]) -> u32

@@ -9,10 +9,6 @@ mostSymbol = 65535
 abbrev pub mostItems : ℕ
 mostItems = 32
 
--- the words of an item: its kind and its symbol
-abbrev pub itemWidth : ℕ
-itemWidth = 2
-
 abbrev pub mostRules : ℕ
 mostRules = 2048
 

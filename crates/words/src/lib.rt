@@ -9,8 +9,6 @@ ghost use Rattle.words.specs.Outcome.{lesser};
 pub const MOST_SYMBOL: u32 = 65535;
 
 pub const MOST_ITEMS: u32 = 32;
-// The words of an item: its kind and its symbol.
-pub const ITEM_WIDTH: usize = 2;
 
 pub const MOST_RULES: u32 = 2048;
 

@@ -5,10 +5,10 @@ use native.Mathlib.Omega.{arith}
 use borrow.Author.Needs.{needs}
 use denote.Ref.{now}
 use lib.ListN.{length, drop}
-use Rattle.words.specs.Limits.{mostItems, itemWidth, mostRules}
+use Rattle.words.specs.Limits.{mostItems, mostRules}
 use Rattle.words.specs.laws.Tests.{failed, passed}
 use Rattle.words.specs.laws.Parts.{part-all}
-use Rattle.rules.specs.Rules.{sizeOf, rulesGood}
+use Rattle.rules.specs.Rules.{itemWidth, sizeOf, rulesGood}
 use Rattle.rules.specs.Code.{Starts, Found}
 use Rattle.rules.specs.laws.Words.{rules-good, good-rule, words-most}
 use Rattle.rules.proofs.Laws.{part-size-of}

@@ -1,20 +1,21 @@
 -- What the words of good rules say, word by word and rule by rule.
 use mathlib.Core.Path.{_≡_, refl, sym, ap, subst, _∙_}
 use mathlib.Core.Bool.{Bool, true, false, false≢true, not, _&&_}
-use mathlib.Core.List.{List, [], _∷_}
-use mathlib.Core.Option.{none, some}
-use Prim.Native.Nat.{ℕ, zero, suc, _+_, _*_, _-_, _≤_, _<_}
+use mathlib.Core.List.{List, [], _∷_, _++_}
+use mathlib.Core.Logic.{_≢_}
+use mathlib.Core.Option.{none, some, Option·some-injective, Option·none-ne-some}
+use Prim.Native.Nat.{ℕ, zero, suc, _+_, _*_, _-_, _/_, _≤_, _<_}
 use native.Mathlib.Numerals.{add-one, add-two}
 use native.Mathlib.Nat.{not-suc-le-zero}
 use native.Mathlib.Omega.{arith}
 use lib.Dec.{eqb, ltb, leb}
-use lib.ListN.{length, drop, getD, getElem?, drop-of-length-le, length-drop}
+use lib.ListN.{length, take, drop, getD, getElem?, drop-of-length-le, length-drop}
 use lib.Seq.{drop-cons, drop-drop, length-take-le, getD-drop, getD-take}
 use borrow.Author.Tests.{ltb-true, ltb-false, leb-true, not-true, ne-eqb}
-use Rattle.words.specs.Limits.{mostItems, itemWidth, mostRules}
+use Rattle.words.specs.Limits.{mostItems, mostRules}
 use Rattle.words.specs.Outcome.{pick}
 use Rattle.words.specs.laws.Tests.{and-l, and-r, by-test}
-use Rattle.rules.specs.Rules.{Item, con, slot, Rule, sizeOf, bodyWords, restOf, itemOf, itemsOf, ruleOf, rulesOf, theRules, ruleAt, slots, source, symbol, goodItems, goodHead, equalEnds, goodRule, goodRules, rulesGood, Stretch, noStretch, stretchFrom}
+use Rattle.rules.specs.Rules.{Item, con, slot, Rule, itemWidth, sizeOf, bodyWords, restOf, itemOf, itemsOf, ruleOf, rulesOf, theRules, ruleAt, slots, source, symbol, goodItems, goodHead, equalEnds, goodRule, goodRules, rulesGood, Stretch, noStretch, stretchFrom}
 
 -- ---- a body, from word i on
 
@@ -72,16 +73,17 @@ good-item ws i h g = by (ltb (length ws - i) itemWidth) refl
         }
 
 -- how many items a body has
-pub items-length : (n : ℕ) (b : List ℕ) → length b ≡ itemWidth * n → length (itemsOf b) ≡ n
+pub items-count : (ws : List ℕ) → length (itemsOf ws) ≡ length ws / itemWidth
 unfolding itemsOf
-items-length zero [] e = refl
-items-length zero (k ∷ ws) e = absurd (omega arith)
-items-length (suc n) [] e = absurd (omega arith)
-items-length (suc n) (k ∷ []) e = absurd (omega arith)
-items-length (suc n) (k ∷ s ∷ ws) e = ap suc (items-length n ws (omega arith))
+items-count [] = refl
+items-count (k ∷ []) = refl
+items-count (k ∷ s ∷ ws) = omega (arith, items-count ws)
 
 -- item j of a body stands at word 2j
-pub item-at : (ws : List ℕ) (j : ℕ) → itemWidth * j + 1 < length ws
+pub item-within : (ws : List ℕ) (j : ℕ) → j < length (itemsOf ws) → itemWidth * j + 1 < length ws
+item-within ws j h = omega (arith, items-count ws)
+
+item-at : (ws : List ℕ) (j : ℕ) → itemWidth * j + 1 < length ws
     → getElem? (itemsOf ws) j ≡ some (itemOf (getD ws (itemWidth * j) 0) (getD ws (itemWidth * j + 1) 0))
 unfolding itemsOf
 item-at [] j h = absurd (omega arith)
@@ -91,6 +93,30 @@ item-at (k ∷ s ∷ ws) (suc j) h =
     let e : itemWidth * suc j + 1 ≡ suc (suc (itemWidth * j + 1)) = omega arith in
     let d : itemWidth * suc j ≡ suc (suc (itemWidth * j)) = omega arith in
     rw (e, d) (item-at ws j (omega arith))
+
+module _ (ws : List ℕ) (j : ℕ) (h : j < length (itemsOf ws)) where
+  pub item-con : getD ws (itemWidth * j) 0 ≡ 0 → getElem? (itemsOf ws) j ≡ some (con (getD ws (itemWidth * j + 1) 0))
+  item-con z = rw z at (item-at ws j (item-within ws j h))
+
+  pub item-slot : getD ws (itemWidth * j) 0 ≢ 0 → getElem? (itemsOf ws) j ≡ some (slot (getD ws (itemWidth * j + 1) 0))
+  item-slot z = item-at ws j (item-within ws j h) ∙ rw (of-slot (getD ws (itemWidth * j) 0) (getD ws (itemWidth * j + 1) 0) z)
+    where
+      of-slot : (k s : ℕ) → k ≢ 0 → itemOf k s ≡ slot s
+      of-slot zero s h = absurd (h refl)
+      of-slot (suc k) s h = refl
+
+-- an item in its place, from the front and from the end
+pub from-item : {A : Type 0} (xs : List A) (j : ℕ) (x : A) → getElem? xs j ≡ some x → drop j xs ≡ x ∷ drop (suc j) xs
+from-item [] zero x e = absurd (Option·none-ne-some x e)
+from-item [] (suc j) x e = absurd (Option·none-ne-some x e)
+from-item (y ∷ xs) zero x e = ap (λ z. z ∷ xs) (Option·some-injective y x e)
+from-item (y ∷ xs) (suc j) x e = from-item xs j x e
+
+pub to-item : {A : Type 0} (xs : List A) (j : ℕ) (x : A) → getElem? xs j ≡ some x → take (suc j) xs ≡ take j xs ++ x ∷ []
+to-item [] zero x e = absurd (Option·none-ne-some x e)
+to-item [] (suc j) x e = absurd (Option·none-ne-some x e)
+to-item (y ∷ xs) zero x e = ap (λ z. z ∷ []) (Option·some-injective y x e)
+to-item (y ∷ xs) (suc j) x e = ap (λ (zs : List _). y ∷ zs) (to-item xs j x e)
 
 -- ---- the slots of a body, from word i on
 
@@ -148,7 +174,7 @@ pub body-length : (ws : List ℕ) → GoodRule ws → length (bodyWords ws) ≡ 
 body-length ws g = length-take-le (sizeOf ws - 2) (drop 2 ws) (omega (arith, length-drop 2 ws, g .fits)) ∙ omega arith
 
 pub body-items : (ws : List ℕ) → GoodRule ws → length (itemsOf (bodyWords ws)) ≡ getD ws 1 0
-body-items ws g = items-length (getD ws 1 0) (bodyWords ws) (body-length ws g)
+body-items ws g = omega (arith, items-count (bodyWords ws), body-length ws g)
 
 pub body-word : (ws : List ℕ) (j : ℕ) → j < itemWidth * getD ws 1 0 → getD (bodyWords ws) j 0 ≡ getD ws (2 + j) 0
 body-word ws j h = getD-take (sizeOf ws - 2) (drop 2 ws) j 0 (omega arith) ∙ getD-drop 2 ws j 0
