@@ -7,23 +7,26 @@ ghost use Rattle.words.specs.Limits.{rowWidth, mostReduces, mostOffset};
 ghost use Rattle.rows.specs.Rows.{edgeOf, edgesOf, rowWords, keyed, bare, goodNodes, goodPair, rootToLeaf, goodEnds, nodesGood, edgesGood, tablesGood};
 ghost use Rattle.rows.specs.Code.{reduceIs, edgeIs, Holds, Adds, rowAt, written, looksUp};
 
+// An edge's places for reduces.
+const PLACES: usize = words::MOST_REDUCES as usize;
+
 // A rule, reduced under the top `offset` trees.
 pub struct Reduce {
     pub rule: words::RuleNo,
     pub offset: u32,
 }
 
-// An edge by value. Of the five places the first `count` are its reduces; the others hold anything.
+// An edge by value. Of its places the first `count` are its reduces; the others hold anything.
 pub struct Edge {
     pub from: words::NodeNo,
     pub kind: u32,
     pub symbol: words::SymbolNo,
     pub to: words::NodeNo,
     pub count: u32,
-    pub reduces: [Reduce; 5],
+    pub reduces: [Reduce; PLACES],
 }
 
-// An edge with one reduce more, or as it was where it has five.
+// An edge with one reduce more, or as it was where no place is free.
 pub struct Added {
     pub ok: bool,
     pub edge: Edge,
@@ -103,7 +106,7 @@ fn write_row(row: &mut [u32], e: Edge)
     row[3] = e.to.0;
     row[4] = e.count;
     let mut k: usize = 0;
-    while k < 5 {
+    while k < PLACES {
         let r = reduce_of(e, k);
         row[5 + 2 * k] = r.rule.0;
         row[6 + 2 * k] = r.offset;
@@ -132,7 +135,7 @@ pub fn with_reduce(e: Edge, r: Reduce) -> Added
         return Added { ok: false, edge: e };
     }
     let mut out = e;
-    let mut k: usize = 4;
+    let mut k = PLACES - 1;
     while 0 < k {
         let moved = out.reduces[k - 1];
         out.reduces[k] = moved;
@@ -235,19 +238,19 @@ fn nodes_good(rules: u32, nodes: &[u32]) -> bool
 }
 
 // Whether pair number `k` of a row is good: a rule that there is and an offset, or zeros.
-fn good_pair(rules: u32, k: u32, count: u32, rule: u32, offset: u32) -> bool
-    ensures { λ r. ⌜ r ≡ goodPair rules k count rule offset ⌝ }
+fn good_pair(rules: u32, k: u32, count: u32, rule: words::RuleNo, offset: u32) -> bool
+    ensures { λ r. ⌜ r ≡ goodPair rules k count (rule .0) offset ⌝ }
 {
     if k < count {
-        if rule < 1 {
+        if rule.0 < 1 {
             return false;
         }
-        if rules < rule {
+        if rules < rule.0 {
             return false;
         }
         return offset <= words::MOST_OFFSET;
     }
-    if rule != 0 {
+    if rule.0 != 0 {
         return false;
     }
     offset == 0
@@ -323,9 +326,9 @@ fn edges_good(rules: u32, nodes: &[u32], edges: &[u32]) -> bool
         }
         let count = edges[at + 4];
         let mut k: u32 = 0;
-        'pairs: while k < words::MOST_REDUCES {
+        while k < words::MOST_REDUCES {
             let p = at + 5 + 2 * (k as usize);
-            if !good_pair(rules, k, count, edges[p], edges[p + 1]) {
+            if !good_pair(rules, k, count, words::RuleNo(edges[p]), edges[p + 1]) {
                 ok = false;
                 break 'rows;
             }

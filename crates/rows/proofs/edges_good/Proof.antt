@@ -11,16 +11,15 @@ use Rattle.rows.specs.Rows.{rowsOf, goodRows, edgesGood, goodEnds, goodP
 use Rattle.rows.specs.Code.{rowAt}
 use Rattle.rows.specs.laws.Lookup.{rowsLeft, rowAt-length}
 use Rattle.rows.proofs.Laws.{row-part, table-step, check-step, check-end, pairAt, pairs-end, pairs-more, pairs-bad, row-bad}
-use borrow.Author.Needs.{needs}
 use Rattle.rows.proofs.edges_good.Statement.{statement}
 use Rattle.rows.proofs.edges_good.Tie as tie
 
-abbrev Inv-pairs : tie.InvT-pairs
-Inv-pairs rules nodes edges n ok₀ row at count k₀ ok k =
+abbrev Inv-loop : tie.InvT-loop
+Inv-loop rules nodes edges n ok₀ row at count k₀ ok k =
     (ok ≡ true) × (k ≤ 5) × (goodPairs rules (take 16 (drop at edges)) (5 - k) k ≡ goodPairs rules (take 16 (drop at edges)) 5 0)
 
-abbrev μ-pairs : tie.MeasureT-pairs
-μ-pairs rules nodes edges n ok₀ row at count k₀ ok k = 5 - k
+abbrev μ-loop : tie.MeasureT-loop
+μ-loop rules nodes edges n ok₀ row at count k₀ ok k = 5 - k
 
 abbrev Inv-rows : tie.InvT-rows
 Inv-rows rules nodes edges n ok₀ row₀ ok row = (ok ≡ true) × (row ≤ n) × (goodRows rules nodes (rowsLeft edges n row) ≡ goodRows rules nodes (rowsOf edges))
@@ -28,18 +27,18 @@ Inv-rows rules nodes edges n ok₀ row₀ ok row = (ok ≡ true) × (row ≤ n) 
 abbrev μ-rows : tie.MeasureT-rows
 μ-rows rules nodes edges n ok₀ row₀ ok row = n - row
 
-returns : tie.Need-returns Inv-pairs μ-pairs Inv-rows μ-rows
+returns : tie.Need-returns Inv-loop μ-loop Inv-rows μ-rows
 unfolding edgesGood
 returns c = search tests
 
-returns-2 : tie.Need-returns-2 Inv-pairs μ-pairs Inv-rows μ-rows
+returns-2 : tie.Need-returns-2 Inv-loop μ-loop Inv-rows μ-rows
 unfolding edgesGood
 returns-2 c = search tests
 
-rows-holds : tie.Need-rows-holds Inv-pairs μ-pairs Inv-rows μ-rows
+rows-holds : tie.Need-rows-holds Inv-loop μ-loop Inv-rows μ-rows
 rows-holds c = (search needs, search needs, rw sub-zero)
 
-good-ends-requires : tie.Need-good-ends-requires Inv-pairs μ-pairs Inv-rows μ-rows
+good-ends-requires : tie.Need-good-ends-requires Inv-loop μ-loop Inv-rows μ-rows
 good-ends-requires c κs =
     let st = c .before .before .before .before .before .before .before in
     let ws = now (st .args .edges) in
@@ -49,19 +48,19 @@ good-ends-requires c κs =
     let r = c .before .before .rows in
     rw (row-part ws (16 * r .row)) (rowAt-length ws (r .row) (omega arith))
 
-pairs-again : tie.Need-pairs-again Inv-pairs μ-pairs Inv-rows μ-rows
-pairs-again c =
+loop-again : tie.Need-loop-again Inv-loop μ-loop Inv-rows μ-rows
+loop-again c =
     let st = c .before .before .before .before .before .before .before .before .before .before .before .before .before .before .before .before in
     let ws = now (st .args .edges) in
     let ns = now (st .args .nodes) in
     let rs = st .args .rules in
     let n = length ws / 16 in
     let r = c .before .before .before .before .before .before .before .before .before .before .before .rows in
-    let p = c .before .before .before .before .before .pairs in
+    let p = c .before .before .before .before .before .loop in
     let good : pairAt rs ws (16 * r .row) (p .k) ≡ true = passed {s = pairAt rs ws (16 * r .row) (p .k)} (c .before .good-pair .ensures) (c .if4 .left) in
     (search needs, search needs, pairs-more ws rs (16 * r .row) (p .k) (search needs) good ∙ p .inv .2)
 
-rows-again : tie.Need-rows-again Inv-pairs μ-pairs Inv-rows μ-rows
+rows-again : tie.Need-rows-again Inv-loop μ-loop Inv-rows μ-rows
 rows-again c =
     let st = c .before .before .before .before .before .before .before .before .before .before .before .before in
     let ws = now (st .args .edges) in
@@ -69,7 +68,7 @@ rows-again c =
     let rs = st .args .rules in
     let n = length ws / 16 in
     let r = c .before .before .before .before .before .before .before .rows in
-    let p = c .before .pairs in
+    let p = c .before .loop in
     let e = c .before .before .before in
     let h : goodEnds ns (rowAt ws (r .row)) ≡ true = passed (rw (row-part ws (16 * r .row)) at (e .before .good-ends .ensures)) (e .if3 .left) in (
       search needs,
@@ -77,7 +76,7 @@ rows-again c =
       search (← (r .inv .2), check-step ns ws rs n (r .row) (search needs), h, ← (p .inv .2), pairs-end rs (p .k) (rowAt ws (r .row)) (search needs)),
     )
 
-returns-3 : tie.Need-returns-3 Inv-pairs μ-pairs Inv-rows μ-rows
+returns-3 : tie.Need-returns-3 Inv-loop μ-loop Inv-rows μ-rows
 returns-3 c =
     let st = c .before .before .before .before .before .before in
     let ws = now (st .args .edges) in
@@ -87,7 +86,7 @@ returns-3 c =
     let r = c .before .rows in
     search (table-step ns ws rs (search needs) (search needs), ← (r .inv .2), check-end ns ws rs n (r .row) (search needs))
 
-returns-4 : tie.Need-returns-4 Inv-pairs μ-pairs Inv-rows μ-rows
+returns-4 : tie.Need-returns-4 Inv-loop μ-loop Inv-rows μ-rows
 returns-4 c =
     let st = c .before .before .before .before .before .before .before .before .before in
     let ws = now (st .args .edges) in
@@ -98,7 +97,7 @@ returns-4 c =
     let h : goodEnds ns (rowAt ws (r .row)) ≡ false = failed (rw (row-part ws (16 * r .row)) at (c .before .good-ends .ensures)) (c .if3 .taken) in
     search (table-step ns ws rs (search needs) (search needs), ← (r .inv .2), check-step ns ws rs n (r .row) (search needs), h)
 
-returns-5 : tie.Need-returns-5 Inv-pairs μ-pairs Inv-rows μ-rows
+returns-5 : tie.Need-returns-5 Inv-loop μ-loop Inv-rows μ-rows
 returns-5 c =
     let st = c .before .before .before .before .before .before .before .before .before .before .before .before .before .before .before .before in
     let ws = now (st .args .edges) in
@@ -106,7 +105,7 @@ returns-5 c =
     let rs = st .args .rules in
     let n = length ws / 16 in
     let r = c .before .before .before .before .before .before .before .before .before .before .before .rows in
-    let p = c .before .before .before .before .before .pairs in
+    let p = c .before .before .before .before .before .loop in
     let e = c .before .before .before .before .before .before .before in
     let h : goodEnds ns (rowAt ws (r .row)) ≡ true = passed (rw (row-part ws (16 * r .row)) at (e .before .good-ends .ensures)) (e .if3 .left) in
     let pair : pairAt rs ws (16 * r .row) (p .k) ≡ false = failed {s = pairAt rs ws (16 * r .row) (p .k)} (c .before .good-pair .ensures) (c .if4 .taken) in
@@ -117,8 +116,8 @@ pub edges-good-spec : {M : Type 1} → statement M
 edges-good-spec =
     tie.close
     (tie.spec
-    Inv-pairs
-    μ-pairs
+    Inv-loop
+    μ-loop
     Inv-rows
     μ-rows
     returns
@@ -147,7 +146,7 @@ edges-good-spec =
     (λ c κs. search needs)
     (λ c. search needs)
     (λ c. search needs)
-    pairs-again
+    loop-again
     (λ c. search needs)
     (λ c. search needs)
     rows-again

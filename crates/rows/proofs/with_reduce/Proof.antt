@@ -58,6 +58,7 @@ with-reduce-spec =
     Inv-loop
     μ-loop
     returns
+    (λ c. search needs)
     loop-holds
     (λ c. search needs)
     (λ c. search needs)
