@@ -12,7 +12,6 @@ use borrow.Author.Tests.{lt-ltb, le-ltb}
 use Rattle.words.specs.Limits.{mostNodes, rowWidth, mostReduces}
 use Rattle.words.specs.Outcome.{Res, no, bind, when}
 use Rattle.words.specs.Numbers.{Fault}
-use Rattle.rules.specs.Rules.{itemOf}
 use Rattle.rules.specs.laws.Every.{All, all-append, all-map}
 use Rattle.rows.specs.Rows.{Edge, edgeOf, edgesOf, edgeWords}
 use Rattle.rows.specs.Code.{edgeIs, Holds, rowAt, written, looksUp}
@@ -21,11 +20,10 @@ use Rattle.rows.specs.declared.Found.the-variants.{Row, Nothing}
 use Rattle.rows.specs.declared.Edge as held
 use Rattle.rows.specs.laws.Words.{Short, edges-back}
 use Rattle.rows.specs.laws.Lookup.{edges-count, edges-step, row-within, row-found, none-found, written-next, written-length}
-use Rattle.tree.specs.Grow.{Grown, kind, sym, addEdge, addNode}
-use Rattle.tree.specs.Code.{roomOf, itemIs, faultOf, edgesIn, grownOf, grewOf, Looks, Leads, Rowed, Stands, StillRowed, Rows, StillStands, Meets}
+use Rattle.tree.specs.Grow.{Grown, addEdge, addNode}
+use Rattle.tree.specs.Code.{roomOf, faultOf, edgesIn, grownOf, grewOf, Looks, Leads, Rowed, Stands, StillRowed, Rows, StillStands, Meets}
 use Rattle.tree.specs.declared.Counts.{Counts}
 use Rattle.tree.specs.declared.Room as lent
-use Rattle.tree.specs.declared.Item as coded
 use Rattle.tree.specs.declared.Fault as why
 use Rattle.tree.specs.declared.Fault.the-variants as code
 use Rattle.tree.specs.declared.Grew.{Grew}
@@ -126,24 +124,6 @@ module _ (r : Grew) (ns es : List ℕ) (x : Res Fault Grown) (e : grewOf r ns es
 
 -- ---- a node more
 
--- an item of the code, and the one that it stands for
-pub kind-is : (i : coded.Item) → i .kind ≤ 1 → kind (itemIs i) ≡ i .kind
-unfolding kind
-kind-is i h = by (i .kind) (i .symbol .0) h
-  where
-    by : (k s : ℕ) → k ≤ 1 → kind (itemOf k s) ≡ k
-    by zero s h = refl
-    by (suc zero) s h = refl
-    by (suc (suc k)) s h = absurd (omega arith)
-
-pub sym-is : (i : coded.Item) → sym (itemIs i) ≡ i .symbol .0
-unfolding sym
-sym-is i = by (i .kind) (i .symbol .0)
-  where
-    by : (k s : ℕ) → sym (itemOf k s) ≡ s
-    by zero s = refl
-    by (suc k) s = refl
-
 -- rows among more nodes
 pub more-nodes : (z : lent.Room) (c : Counts) (es : List ℕ) → Rowed z c es → Rowed z (record { nodes = c .nodes + 1; edges = c .edges }) es
 more-nodes z c es r = record {
@@ -159,24 +139,24 @@ pub both-stand : (z : lent.Room) (k : ℕ) (r : Grew) (ns es : List ℕ) → 0 <
 both-stand z k (On c) ns es p h f m s = record { root = rw (s .1) p; within = rw (s .1) h; fits = f; few = m; rowed = s .0 }
 both-stand z k (Refused y) ns es p h f m s = tt
 
-module _ (z : lent.Room) (c : Counts) (ns es : List ℕ) (s : Stands z c ns es) (n : ℕ) (i : coded.Item) (w : ℕ) where
+module _ (z : lent.Room) (c : Counts) (ns es : List ℕ) (s : Stands z c ns es) (n k y w : ℕ) where
   nodes-count : length (take (c .nodes) ns) ≡ c .nodes
   nodes-count = length-take-le (c .nodes) ns (omega (arith, s .within, s .fits))
 
-  pub node-refused : z .nodes ≤ c .nodes → Meets z (addNode (roomOf z) (grownOf c ns es) n (itemIs i) w) (Refused code.NoNode) ns es
+  pub node-refused : z .nodes ≤ c .nodes → Meets z (addNode (roomOf z) (grownOf c ns es) n k y w) (Refused code.NoNode) ns es
   unfolding addNode bind when
   node-refused h = record { answer = rw (nodes-count, le-ltb (c .nodes) (z .nodes) h); stands = tt }
 
   pub node-added : (e : held.Edge) (r : Grew) (es′ : List ℕ)
       → let c′ : Counts = record { nodes = c .nodes + 1; edges = c .edges } in
-      c .nodes < z .nodes → i .kind ≤ 1 → Holds e (record { from = n; kind = i .kind; sym = i .symbol .0; to = c .nodes; reduces = [] })
+      c .nodes < z .nodes → Holds e (record { from = n; kind = k; sym = y; to = c .nodes; reduces = [] })
       → Rows z c′ (addEdge (roomOf z) (grownOf c′ (set ns (c .nodes) w) es) (edgeIs e)) r (set ns (c .nodes) w) es′
-      → Meets z (addNode (roomOf z) (grownOf c ns es) n (itemIs i) w) r (set ns (c .nodes) w) es′
+      → Meets z (addNode (roomOf z) (grownOf c ns es) n k y w) r (set ns (c .nodes) w) es′
   unfolding addNode bind when
-  node-added e r es′ h k holds rows =
+  node-added e r es′ h holds rows =
       let ns′ = set ns (c .nodes) w in
       let more : take (c .nodes + 1) ns′ ≡ take (c .nodes) ns ++ w ∷ [] = rw (add-one, take-suc-set ns (c .nodes) w (omega (arith, s .fits))) in
       record {
-        answer = rw (nodes-count, lt-ltb (c .nodes) (z .nodes) h, kind-is i k, sym-is i) (rw (more, holds .says) at (rows .answer));
+        answer = rw (nodes-count, lt-ltb (c .nodes) (z .nodes) h) (rw (more, holds .says) at (rows .answer));
         stands = both-stand z (c .nodes + 1) r ns′ es′ (omega arith) (omega arith) (simp length-set (s .fits)) (s .few) (rows .rowed);
       }

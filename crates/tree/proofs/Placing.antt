@@ -3,177 +3,158 @@ use mathlib.Core.Path.{_≡_, refl, ap, _∙_}
 use mathlib.Core.Path as path
 use mathlib.Core.Bool.{Bool, true, false}
 use mathlib.Core.List.{List, [], _∷_, _++_}
-use mathlib.Core.Option.{none}
-use Prim.Native.Nat.{ℕ, _+_, _-_, _≤_, _<_}
+use mathlib.Core.Option.{none, some}
+use Prim.Native.Nat.{ℕ, suc, _+_, _≤_, _<_}
 use native.Mathlib.Numerals.{add-one}
 use native.Mathlib.Omega.{arith}
 use lib.Dec.{ltb, eqb}
-use lib.ListN.{length, drop, getD, length-append, drop-of-length-le}
-use lib.Seq.{length-take-le, getD-take}
+use lib.ListN.{length, drop, getD, getElem?, length-append, drop-of-length-le}
+use lib.Seq.{length-take-le, getD-take, drop-cons}
 use Rattle.words.specs.Outcome.{ok, bind, when}
 use Rattle.words.specs.Numbers.{Fault, noNode, noEdge}
-use Rattle.words.specs.Limits.{itemWidth, mostRules}
+use Rattle.words.specs.Limits.{mostRules}
 use Rattle.words.specs.declared.NodeNo.{NodeNo}
 use Rattle.words.specs.declared.SymbolNo.{SymbolNo}
-use Rattle.rules.specs.Rules.{Item, sizeOf, bodyWords, itemsOf, ruleOf, theRules, source, goodItems}
+use Rattle.rules.specs.Rules.{Item, sizeOf, bodyWords, itemsOf, ruleOf, theRules, source}
 use Rattle.rules.specs.Code.{aRule, someRules, sourceOf}
 use Rattle.rules.specs.declared.Conversion.{Conversion}
 use Rattle.rules.specs.declared.Conversion.the-variants.{From, No}
-use Rattle.rules.specs.laws.Words.{good-item, items-step, items-end, good-rule, body-length, rules-most, Ahead, Here, ahead-start, ahead-end, ahead-here}
+use Rattle.rules.specs.laws.Words.{from-item, good-rule, body-items, rules-most, Ahead, Here, ahead-start, ahead-end, ahead-here}
 use Rattle.rows.specs.Rows.{Edge, edgeOf, find}
 use Rattle.rows.specs.Code.{Holds, rowAt}
 use Rattle.rows.specs.declared.Edge as held
 use Rattle.tree.specs.Grow.{Grown, Room, kind, sym, edgeFor, branchAt, addEdge, addNode, placeLast, placeInner, place, placeRule, placeRules}
-use Rattle.tree.specs.Code.{roomOf, itemIs, edgesIn, grownOf, FoundAt, Stands, Meets, branchOf, innerOf, placeFirst, StillAt, Places}
+use Rattle.tree.specs.Code.{roomOf, edgesIn, grownOf, FoundAt, Stands, Meets, branchOf, innerOf, placeFirst, StillAt, Places}
 use Rattle.tree.specs.declared.Counts.{Counts}
 use Rattle.tree.specs.declared.Room as lent
-use Rattle.tree.specs.declared.Item as coded
 use Rattle.tree.specs.declared.Fault as why
 use Rattle.tree.specs.declared.Fault.the-variants as code
 use Rattle.tree.specs.declared.Grew.{Grew}
 use Rattle.tree.specs.declared.Grew.the-variants.{On, Refused}
 use Rattle.tree.specs.declared.place.Placed.{Placed}
 use Rattle.tree.specs.declared.place.Placed.the-variants.{At, Stuck}
-use Rattle.tree.proofs.Laws.{read-leads, held-to, kind-is, sym-is, on-then, refused-then}
+use Rattle.tree.proofs.Laws.{read-leads, held-to, on-then, refused-then}
 
 -- ---- a new branch
 
 -- one node more
-node-longer : (z : Room) (g : Grown) (n : ℕ) (i : Item) (w : ℕ) (g′ : Grown) → ok g′ ≡ addNode z g n i w → length (g′ .nodes) ≡ length (g .nodes) + 1
+node-longer : (z : Room) (g : Grown) (n k y w : ℕ) (g′ : Grown) → ok g′ ≡ addNode z g n k y w → length (g′ .nodes) ≡ length (g .nodes) + 1
 unfolding addNode addEdge bind when
-node-longer z g n i w g′ e = go (ltb (length (g .nodes)) (z .nodes)) (ltb (length (g .edges)) (z .edges)) e
+node-longer z g n k y w g′ e = go (ltb (length (g .nodes)) (z .nodes)) (ltb (length (g .edges)) (z .edges)) e
   where
-    more : Grown
-    more = record { nodes = g .nodes ++ w ∷ []; edges = g .edges ++ record { from = n; kind = kind i; sym = sym i; to = length (g .nodes); reduces = [] } ∷ [] }
+    more : ℕ → Grown
+    more m = record { nodes = g .nodes ++ w ∷ []; edges = g .edges ++ record { from = n; kind = k; sym = y; to = m; reduces = [] } ∷ [] }
 
-    go : (a b : Bool) → ok g′ ≡ bind (when a noNode (length (g .nodes))) (λ k. when b noEdge (record { nodes = g .nodes ++ w ∷ []; edges = g .edges ++ record { from = n; kind = kind i; sym = sym i; to = k; reduces = [] } ∷ [] }))
-        → length (g′ .nodes) ≡ length (g .nodes) + 1
-    go true true e = let s : g′ ≡ more = cc in ap (λ (g : Grown). length (g .nodes)) s ∙ length-append (g .nodes) (w ∷ [])
+    go : (a b : Bool) → ok g′ ≡ bind (when a noNode (length (g .nodes))) (λ m. when b noEdge (more m)) → length (g′ .nodes) ≡ length (g .nodes) + 1
+    go true true e = let s : g′ ≡ more (length (g .nodes)) = cc in ap (λ (g : Grown). length (g .nodes)) s ∙ length-append (g .nodes) (w ∷ [])
     go true false e = cc
     go false b e = cc
 
-module _ (z : lent.Room) (c : Counts) (ns es : List ℕ) (s : Stands z c ns es) (n : ℕ) (i : coded.Item) where
-  module _ (r : Grew) (ns′ es′ : List ℕ) (m : Meets z (addNode (roomOf z) (grownOf c ns es) n (itemIs i) 0) r ns′ es′) where
-    pub branch-made : (d : Counts) → r ≡ On d → Places z (branchOf (roomOf z) (grownOf c ns es) n (itemIs i)) (At d (record { 0 = c .nodes })) ns′ es′
+module _ (z : lent.Room) (c : Counts) (ns es : List ℕ) (s : Stands z c ns es) (n k y : ℕ) where
+  module _ (r : Grew) (ns′ es′ : List ℕ) (m : Meets z (addNode (roomOf z) (grownOf c ns es) n k y 0) r ns′ es′) where
+    pub branch-made : (d : Counts) → r ≡ On d → Places z (branchOf (roomOf z) (grownOf c ns es) n k y) (At d (record { 0 = c .nodes })) ns′ es′
     branch-made d e =
         let old = length-take-le (c .nodes) ns (omega (arith, s .within, s .fits)) in
         let t : Stands z d ns′ es′ = rw e at (m .stands) in
-        let a : ok (grownOf d ns′ es′) ≡ addNode (roomOf z) (grownOf c ns es) n (itemIs i) 0 = rw e at (m .answer) in
+        let a : ok (grownOf d ns′ es′) ≡ addNode (roomOf z) (grownOf c ns es) n k y 0 = rw e at (m .answer) in
         let new = length-take-le (d .nodes) ns′ (omega (arith, t .within, t .fits)) in
-        let longer = node-longer (roomOf z) (grownOf c ns es) n (itemIs i) 0 (grownOf d ns′ es′) a in
+        let longer = node-longer (roomOf z) (grownOf c ns es) n k y 0 (grownOf d ns′ es′) a in
         record {
           answer = λ rest. path.sym (on-then r ns′ es′ _ (m .answer) d e _ ∙ rw old);
           stands = (t, omega arith);
         }
 
-    pub branch-stuck : (y : why.Fault) → r ≡ Refused y → Places z (branchOf (roomOf z) (grownOf c ns es) n (itemIs i)) (Stuck y) ns′ es′
-    branch-stuck y e = record { answer = λ rest. path.sym (refused-then r ns′ es′ _ (m .answer) y e _); stands = tt }
+    pub branch-stuck : (f : why.Fault) → r ≡ Refused f → Places z (branchOf (roomOf z) (grownOf c ns es) n k y) (Stuck f) ns′ es′
+    branch-stuck f e = record { answer = λ rest. path.sym (refused-then r ns′ es′ _ (m .answer) f e _); stands = tt }
 
-  -- ---- an item: 11 at a leaf
+-- ---- an item: 11 at a leaf
 
-  module _ (h : n < c .nodes) where
-    branch-is : branchAt (grownOf c ns es) n ≡ eqb (getD ns n 0) 0
-    unfolding branchAt
-    branch-is = rw (getD-take (c .nodes) ns n 0 h)
+module _ (z : lent.Room) (c : Counts) (ns es : List ℕ) (s : Stands z c ns es) (n : ℕ) (h : n < c .nodes) (i : Item) where
+  branch-is : branchAt (grownOf c ns es) n ≡ eqb (getD ns n 0) 0
+  unfolding branchAt
+  branch-is = rw (getD-take (c .nodes) ns n 0 h)
 
-    pub inner-leaf : eqb (getD ns n 0) 0 ≡ false → Places z (innerOf (roomOf z) (grownOf c ns es) n (itemIs i)) (Stuck code.Collides) ns es
-    unfolding bind when
-    inner-leaf l = record { answer = λ rest. rw (branch-is, l); stands = tt }
+  pub inner-leaf : eqb (getD ns n 0) 0 ≡ false → Places z (innerOf (roomOf z) (grownOf c ns es) n i) (Stuck code.Collides) ns es
+  unfolding bind when
+  inner-leaf l = record { answer = λ rest. rw (branch-is, l); stands = tt }
 
-    pub last-leaf : (r : ℕ) → eqb (getD ns n 0) 0 ≡ false → Meets z (place (roomOf z) r (itemIs i ∷ []) (grownOf c ns es) n) (Refused code.Collides) ns es
-    unfolding place bind when
-    last-leaf r l = record { answer = rw (branch-is, l); stands = tt }
+  pub last-leaf : (r : ℕ) → eqb (getD ns n 0) 0 ≡ false → Meets z (place (roomOf z) r (i ∷ []) (grownOf c ns es) n) (Refused code.Collides) ns es
+  unfolding place bind when
+  last-leaf r l = record { answer = rw (branch-is, l); stands = tt }
 
-    module _ (b : eqb (getD ns n 0) 0 ≡ true) (k : i .kind ≤ 1) where
-      -- what the code looked up is the item's edge
-      edge-is : edgeFor (grownOf c ns es) n (itemIs i) ≡ find (edgesIn (c .edges) es) n (i .kind) (i .symbol .0)
-      edge-is = rw (kind-is i k, sym-is i)
+  -- at a branch, the key k, y that the code looked up is the item's
+  module _ (b : eqb (getD ns n 0) 0 ≡ true) (k y : ℕ) (p : k ≡ kind i) (q : y ≡ sym i) where
+    edge-is : edgeFor (grownOf c ns es) n i ≡ find (edgesIn (c .edges) es) n k y
+    edge-is = rw (p, q)
 
-      pub inner-made : (r : Placed) (ns′ es′ : List ℕ) → find (edgesIn (c .edges) es) n (i .kind) (i .symbol .0) ≡ none
-          → Places z (branchOf (roomOf z) (grownOf c ns es) n (itemIs i)) r ns′ es′ → Places z (innerOf (roomOf z) (grownOf c ns es) n (itemIs i)) r ns′ es′
-      unfolding bind when placeInner
-      inner-made r ns′ es′ f p = record { answer = λ rest. rw (branch-is, b, edge-is, f) (p .answer rest); stands = p .stands }
+    pub inner-made : (r : Placed) (ns′ es′ : List ℕ) → find (edgesIn (c .edges) es) n k y ≡ none
+        → Places z (branchOf (roomOf z) (grownOf c ns es) n k y) r ns′ es′ → Places z (innerOf (roomOf z) (grownOf c ns es) n i) r ns′ es′
+    unfolding bind when placeInner
+    inner-made r ns′ es′ f m = record { answer = λ rest. rw (branch-is, b, edge-is, f, ← p, ← q) (m .answer rest); stands = m .stands }
 
-      pub inner-follows : (row : ℕ) (e : held.Edge) → FoundAt c es n (i .kind) (i .symbol .0) row → Holds e (edgeOf (rowAt es row))
-          → Places z (innerOf (roomOf z) (grownOf c ns es) n (itemIs i)) (At c (e .to)) ns es
-      unfolding bind when placeInner
-      inner-follows row e f o =
-          let to = held-to e _ o in
-          record { answer = λ rest. rw (branch-is, b, edge-is, f .finds, to); stands = (s, read-leads z c es row e (s .rowed) (f .within) o) }
+    pub inner-follows : (row : ℕ) (e : held.Edge) → FoundAt c es n k y row → Holds e (edgeOf (rowAt es row))
+        → Places z (innerOf (roomOf z) (grownOf c ns es) n i) (At c (e .to)) ns es
+    unfolding bind when placeInner
+    inner-follows row e f o =
+        let to = held-to e _ o in
+        record { answer = λ rest. rw (branch-is, b, edge-is, f .finds, to); stands = (s, read-leads z c es row e (s .rowed) (f .within) o) }
 
-      pub last-there : (r row : ℕ) → FoundAt c es n (i .kind) (i .symbol .0) row
-          → Meets z (place (roomOf z) r (itemIs i ∷ []) (grownOf c ns es) n) (Refused code.Collides) ns es
-      unfolding place bind when placeLast
-      last-there r row f = record { answer = rw (branch-is, b, edge-is, f .finds); stands = tt }
+    pub last-there : (r row : ℕ) → FoundAt c es n k y row → Meets z (place (roomOf z) r (i ∷ []) (grownOf c ns es) n) (Refused code.Collides) ns es
+    unfolding place bind when placeLast
+    last-there r row f = record { answer = rw (branch-is, b, edge-is, f .finds); stands = tt }
 
-      pub last-made : (r : ℕ) (a : Grew) (ns′ es′ : List ℕ) → find (edgesIn (c .edges) es) n (i .kind) (i .symbol .0) ≡ none
-          → Meets z (addNode (roomOf z) (grownOf c ns es) n (itemIs i) r) a ns′ es′ → Meets z (place (roomOf z) r (itemIs i ∷ []) (grownOf c ns es) n) a ns′ es′
-      unfolding place bind when placeLast
-      last-made r a ns′ es′ f m = record { answer = rw (branch-is, b, edge-is, f) (m .answer); stands = m .stands }
+    pub last-made : (r : ℕ) (a : Grew) (ns′ es′ : List ℕ) → find (edgesIn (c .edges) es) n k y ≡ none
+        → Meets z (addNode (roomOf z) (grownOf c ns es) n k y r) a ns′ es′ → Meets z (place (roomOf z) r (i ∷ []) (grownOf c ns es) n) a ns′ es′
+    unfolding place bind when placeLast
+    last-made r a ns′ es′ f m = record { answer = rw (branch-is, b, edge-is, f, ← p, ← q) (m .answer); stands = m .stands }
 
--- ---- a body, from word i on
+-- ---- a body, from item k on
 
--- the item at word i, as the code reads it
-abbrev pub itemAt : List ℕ → ℕ → coded.Item
-itemAt ws i = record { kind = getD ws i 0; symbol = record { 0 = getD ws (i + 1) 0 } }
+module _ (b : List Item) (k : ℕ) (i : Item) (e : getElem? b k ≡ some i) where
+  last-step : length b ≤ k + 1 → drop k b ≡ i ∷ []
+  last-step h = from-item b k i e ∙ rw (drop-of-length-le b {i = suc k} (omega arith))
 
-module _ (z : Room) (r : ℕ) (ws : List ℕ) (i : ℕ) (g : goodItems (drop i ws) ≡ true) (h : i < length ws) where
-  last-step : length ws - i ≤ itemWidth → itemsOf (drop i ws) ≡ itemIs (itemAt ws i) ∷ []
-  last-step e = items-step ws i (good-item ws i h g .whole) ∙ rw (items-end ws (i + 2) (omega arith))
-
-  inner-step : itemWidth < length ws - i → (t : Grown) (n : ℕ)
-      → place z r (itemsOf (drop i ws)) t n ≡ innerOf z t n (itemIs (itemAt ws i)) (λ t n. place z r (itemsOf (drop (i + itemWidth) ws)) t n)
+  inner-step : k + 1 < length b → (z : Room) (r : ℕ) (t : Grown) (n : ℕ)
+      → place z r (drop k b) t n ≡ innerOf z t n i (λ t n. place z r (drop (k + 1) b) t n)
   unfolding place
-  inner-step e t n =
-      let one = good-item ws i h g in
-      let two = good-item ws (i + 2) (omega arith) (one .rest) in
-      rw (items-step ws i (one .whole), items-step ws (i + 2) (two .whole))
+  inner-step h z r t n = rw (from-item b k i e, add-one k, drop-cons b (suc k) i (omega arith))
 
 -- what is left of the body decides
-pub record Left (z : lent.Room) (r : ℕ) (ws : List ℕ) (c₀ : Counts) (ns₀ es₀ : List ℕ) (c : Counts) (ns es : List ℕ) (n i : ℕ) : Type 0 where
-  pub inside : i < length ws
-  pub good : goodItems (drop i ws) ≡ true
+pub record Left (z : lent.Room) (r : ℕ) (b : List Item) (c₀ : Counts) (ns₀ es₀ : List ℕ) (c : Counts) (ns es : List ℕ) (n k : ℕ) : Type 0 where
+  pub inside : k < length b
   pub stands : Stands z c ns es
   pub at : n < c .nodes
   pub nodes-kept : length ns ≡ length ns₀
   pub edges-kept : length es ≡ length es₀
-  pub same : place (roomOf z) r (itemsOf (drop i ws)) (grownOf c ns es) n ≡ place (roomOf z) r (itemsOf ws) (grownOf c₀ ns₀ es₀) 0
+  pub same : place (roomOf z) r (drop k b) (grownOf c ns es) n ≡ place (roomOf z) r b (grownOf c₀ ns₀ es₀) 0
 
-pub left-start : (z : lent.Room) (r : ℕ) (ws : List ℕ) (c : Counts) (ns es : List ℕ) → Stands z c ns es → 0 < length ws → goodItems ws ≡ true
-    → Left z r ws c ns es c ns es 0 0
-left-start z r ws c ns es s h g = record { inside = h; good = g; stands = s; at = s .root; nodes-kept = refl; edges-kept = refl; same = refl }
+pub left-start : (z : lent.Room) (r : ℕ) (b : List Item) (c : Counts) (ns es : List ℕ) → Stands z c ns es → 0 < length b → Left z r b c ns es c ns es 0 0
+left-start z r b c ns es s h = record { inside = h; stands = s; at = s .root; nodes-kept = refl; edges-kept = refl; same = refl }
 
-module _ (z : lent.Room) (r : ℕ) (ws : List ℕ) (c₀ : Counts) (ns₀ es₀ : List ℕ) (c : Counts) (ns es : List ℕ) (n i : ℕ) (l : Left z r ws c₀ ns₀ es₀ c ns es n i) where
-  pub left-kind : getD ws i 0 ≤ 1
-  left-kind = good-item ws i (l .inside) (l .good) .kind
+module _ (z : lent.Room) (r : ℕ) (b : List Item) (c₀ : Counts) (ns₀ es₀ : List ℕ) (c : Counts) (ns es : List ℕ) (n k : ℕ) (l : Left z r b c₀ ns₀ es₀ c ns es n k)
+    (i : Item) (w : getElem? b k ≡ some i) where
+  module _ (a : Placed) (ns′ es′ : List ℕ) (p : Places z (innerOf (roomOf z) (grownOf c ns es) n i) a ns′ es′) (m : k + 1 < length b) where
+    pub left-more : (d : Counts) (t : NodeNo) → a ≡ At d t → length ns′ ≡ length ns → length es′ ≡ length es → Left z r b c₀ ns₀ es₀ d ns′ es′ (t .0) (k + 1)
+    left-more d t e kn ke =
+        let u : StillAt z (At d t) ns′ es′ = rw e at (p .stands) in
+        let s = rw e at (p .answer (λ t n. place (roomOf z) r (drop (k + 1) b) t n)) in
+        record {
+          inside = m;
+          stands = u .0;
+          at = u .1;
+          nodes-kept = kn ∙ l .nodes-kept;
+          edges-kept = ke ∙ l .edges-kept;
+          same = s ∙ path.sym (inner-step b k i w m (roomOf z) r (grownOf c ns es) n) ∙ l .same;
+        }
 
-  pub left-whole : i + itemWidth ≤ length ws
-  left-whole = omega (arith, good-item ws i (l .inside) (l .good) .whole)
+    pub left-stuck : (f : why.Fault) → a ≡ Stuck f → Meets z (place (roomOf z) r b (grownOf c₀ ns₀ es₀) 0) (Refused f) ns′ es′
+    left-stuck f e =
+        let s = rw e at (p .answer (λ t n. place (roomOf z) r (drop (k + 1) b) t n)) in
+        record { answer = s ∙ path.sym (inner-step b k i w m (roomOf z) r (grownOf c ns es) n) ∙ l .same; stands = tt }
 
-  module _ (x : coded.Item) (w : x ≡ itemAt ws i) where
-    module _ (a : Placed) (ns′ es′ : List ℕ) (p : Places z (innerOf (roomOf z) (grownOf c ns es) n (itemIs x)) a ns′ es′) (m : itemWidth < length ws - i) where
-      pub left-more : (d : Counts) (k : NodeNo) → a ≡ At d k → length ns′ ≡ length ns → length es′ ≡ length es → Left z r ws c₀ ns₀ es₀ d ns′ es′ (k .0) (i + itemWidth)
-      left-more d k e kn ke =
-          let t : StillAt z (At d k) ns′ es′ = rw e at (p .stands) in
-          let s = rw (w, e) at (p .answer (λ t n. place (roomOf z) r (itemsOf (drop (i + 2) ws)) t n)) in
-          record {
-            inside = omega arith;
-            good = good-item ws i (l .inside) (l .good) .rest;
-            stands = t .0;
-            at = t .1;
-            nodes-kept = kn ∙ l .nodes-kept;
-            edges-kept = ke ∙ l .edges-kept;
-            same = s ∙ path.sym (inner-step (roomOf z) r ws i (l .good) (l .inside) m (grownOf c ns es) n) ∙ l .same;
-          }
-
-      pub left-stuck : (y : why.Fault) → a ≡ Stuck y → Meets z (place (roomOf z) r (itemsOf ws) (grownOf c₀ ns₀ es₀) 0) (Refused y) ns′ es′
-      left-stuck y e =
-          let s = rw (w, e) at (p .answer (λ t n. place (roomOf z) r (itemsOf (drop (i + 2) ws)) t n)) in
-          record { answer = s ∙ path.sym (inner-step (roomOf z) r ws i (l .good) (l .inside) m (grownOf c ns es) n) ∙ l .same; stands = tt }
-
-    pub left-last : (a : Grew) (ns′ es′ : List ℕ) → length ws - i ≤ itemWidth → Meets z (place (roomOf z) r (itemIs x ∷ []) (grownOf c ns es) n) a ns′ es′
-        → Meets z (place (roomOf z) r (itemsOf ws) (grownOf c₀ ns₀ es₀) 0) a ns′ es′
-    left-last a ns′ es′ m p = record { answer = rw w at (p .answer) ∙ rw (last-step (roomOf z) r ws i (l .good) (l .inside) m) at (l .same); stands = p .stands }
+  pub left-last : (a : Grew) (ns′ es′ : List ℕ) → length b ≤ k + 1 → Meets z (place (roomOf z) r (i ∷ []) (grownOf c ns es) n) a ns′ es′
+      → Meets z (place (roomOf z) r b (grownOf c₀ ns₀ es₀) 0) a ns′ es′
+  left-last a ns′ es′ m p = record { answer = p .answer ∙ rw (last-step b k i w m) at (l .same); stands = p .stands }
 
 -- ---- a rule
 
@@ -188,8 +169,8 @@ module _ (z : lent.Room) (c : Counts) (ns es : List ℕ) (n : ℕ) (ws : List �
   rule-placed b a ns′ es′ h w m = record { answer = rw (← e, h, ← w) (m .answer); stands = m .stands }
 
 -- the body of a good rule has an item
-pub body-some : (ws : List ℕ) → aRule ws ≡ true → (0 < length (bodyWords ws)) × (goodItems (bodyWords ws) ≡ true)
-body-some ws h = let g = good-rule 0 ws h in (omega (arith, body-length ws g, g .filled), g .items)
+pub body-some : (ws : List ℕ) → aRule ws ≡ true → 0 < length (itemsOf (bodyWords ws))
+body-some ws h = let g = good-rule 0 ws h in omega (arith, body-items ws g, g .filled)
 
 -- ---- the rules, from word i on
 

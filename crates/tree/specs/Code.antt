@@ -8,7 +8,7 @@ use lib.ListN.{length, take}
 use Rattle.words.specs.Limits.{mostNodes, rowWidth, mostReduces}
 use Rattle.words.specs.Outcome.{Res, ok, no, bind, when, pick}
 use Rattle.words.specs.Numbers.{Fault, collides, noNode, noEdge, sixthReduce, badCopy}
-use Rattle.rules.specs.Rules.{Item, itemOf, ruleOf, source}
+use Rattle.rules.specs.Rules.{Item, ruleOf, source}
 use Rattle.rules.specs.laws.Every.{All}
 use Rattle.rows.specs.Rows.{Reduce, Edge, edgeOf, edgesOf, edgeWords, find}
 use Rattle.rows.specs.Code.{edgeIs, rowAt}
@@ -18,7 +18,6 @@ use Rattle.rows.specs.declared.Found.the-variants.{Row, Nothing}
 use Rattle.tree.specs.Grow.{Grown, Room, edgeFor, branchAt, addNode, placeInner, placeRule, copyRow, convert}
 use Rattle.tree.specs.declared.Counts.{Counts}
 use Rattle.tree.specs.declared.Room as lent
-use Rattle.tree.specs.declared.Item as coded
 use Rattle.tree.specs.declared.Fault as why
 use Rattle.tree.specs.declared.Fault.the-variants as code
 use Rattle.tree.specs.declared.Grew.{Grew}
@@ -59,9 +58,6 @@ Grows z x (On c) ns es = Holding z x c ns es
 Grows z x (Refused f) ns es = x ≡ no (faultOf f)
 
 -- ---- what stands in the slices while it grows
-
-abbrev pub itemIs : coded.Item → Item
-itemIs i = itemOf (i .kind) (i .symbol .0)
 
 -- the edges of the first k rows
 unfoldable pub edgesIn : ℕ → List ℕ → List Edge
@@ -128,8 +124,8 @@ pub record Meets (z : lent.Room) (x : Res Fault Grown) (r : Grew) (ns es : List 
   pub stands : StillStands z r ns es
 
 -- a new branch for the items that come after
-abbrev pub branchOf : Room → Grown → ℕ → Item → (Grown → ℕ → Res Fault Grown) → Res Fault Grown
-branchOf z g n i rest = bind (addNode z g n i 0) λ g′. rest g′ (length (g .nodes))
+abbrev pub branchOf : Room → Grown → ℕ → ℕ → ℕ → (Grown → ℕ → Res Fault Grown) → Res Fault Grown
+branchOf z g n k s rest = bind (addNode z g n k s 0) λ g′. rest g′ (length (g .nodes))
 
 -- an item that has more after it: 11 at a leaf, else as it is defined
 abbrev pub innerOf : Room → Grown → ℕ → Item → (Grown → ℕ → Res Fault Grown) → Res Fault Grown

@@ -20,6 +20,7 @@ pub record Room : Type 0 where
   pub nodes : ℕ
   pub edges : ℕ
 
+-- the kind and the symbol of an item's edge
 unfoldable pub kind : Item → ℕ
 kind (con c) = 0
 kind (slot t) = 1
@@ -39,22 +40,22 @@ branchAt g n = eqb (getD (g .nodes) n 0) 0
 unfoldable pub addEdge : Room → Grown → Edge → Res Fault Grown
 addEdge z g e = when (ltb (length (g .edges)) (z .edges)) noEdge (record { nodes = g .nodes; edges = g .edges ++ e ∷ [] })
 
--- a new node with the word w, or 12, and item i's edge to it from node n, with no reduces
-unfoldable pub addNode : Room → Grown → ℕ → Item → ℕ → Res Fault Grown
-addNode z g n i w = bind (when (ltb (length (g .nodes)) (z .nodes)) noNode (length (g .nodes))) λ k.
-    addEdge z (record { nodes = g .nodes ++ w ∷ []; edges = g .edges }) (record { from = n; kind = kind i; sym = sym i; to = k; reduces = [] })
+-- a new node with the word w, or 12, and an edge to it from node n, of kind k for symbol s, with no reduces
+unfoldable pub addNode : Room → Grown → ℕ → ℕ → ℕ → ℕ → Res Fault Grown
+addNode z g n k s w = bind (when (ltb (length (g .nodes)) (z .nodes)) noNode (length (g .nodes))) λ m.
+    addEdge z (record { nodes = g .nodes ++ w ∷ []; edges = g .edges }) (record { from = n; kind = k; sym = s; to = m; reduces = [] })
 
 -- ---- a rule's body from node n: 11 before 12 before 13
 
 -- the last item makes a new leaf; 11 if its edge is there
 unfoldable pub placeLast : Room → ℕ → Grown → ℕ → Item → Option Edge → Res Fault Grown
 placeLast z r g n i (some e) = no collides
-placeLast z r g n i none = addNode z g n i r
+placeLast z r g n i none = addNode z g n (kind i) (sym i) r
 
 -- another item follows its edge, or makes one to a new branch; `rest` places the items after it
 unfoldable pub placeInner : Room → Grown → ℕ → Item → (Grown → ℕ → Res Fault Grown) → Option Edge → Res Fault Grown
 placeInner z g n i rest (some e) = rest g (e .to)
-placeInner z g n i rest none = bind (addNode z g n i 0) λ g′. rest g′ (length (g .nodes))
+placeInner z g n i rest none = bind (addNode z g n (kind i) (sym i) 0) λ g′. rest g′ (length (g .nodes))
 
 -- 11 if node n is a leaf
 unfoldable pub place : Room → ℕ → List Item → Grown → ℕ → Res Fault Grown

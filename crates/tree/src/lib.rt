@@ -37,12 +37,6 @@ pub enum Grew {
     Refused(Fault),
 }
 
-// One place of a body.
-pub struct Item {
-    pub kind: u32,
-    pub symbol: words::SymbolNo,
-}
-
 // The tree of the rules, in two slices with so much room. What stands past the counts is left as it comes.
 pub fn grow(rules: &[u32], room: Room, nodes: &mut [u32], edges: &mut [u32]) -> Grew
     requires { ⌜ (someRules (now rules) ≡ true) × Within room (now nodes) (now edges) ⌝ }

@@ -2,19 +2,17 @@
 use super::Counts;
 use super::Fault;
 use super::Grew;
-use super::Item;
 use super::Room;
 use super::table;
 ghost use mathlib.Core.Path.{_≡_};
 ghost use mathlib.Core.Bool.{true};
 ghost use mathlib.Core.List.{[], _∷_};
-ghost use Prim.Native.Nat.{_+_, _≤_, _<_};
-ghost use lib.ListN.{length, getD};
-ghost use Rattle.words.specs.Limits.{itemWidth};
-ghost use Rattle.rules.specs.Rules.{itemsOf, theRules, goodItems};
-ghost use Rattle.rules.specs.Code.{aRule, someRules};
-ghost use Rattle.tree.specs.Grow.{place, placeRules};
-ghost use Rattle.tree.specs.Code.{roomOf, itemIs, grownOf, Stands, branchOf, innerOf, placeFirst, Meets, Places};
+ghost use Prim.Native.Nat.{_<_};
+ghost use lib.ListN.{length};
+ghost use Rattle.rules.specs.Rules.{itemsOf, theRules};
+ghost use Rattle.rules.specs.Code.{aRule, someRules, itemIs};
+ghost use Rattle.tree.specs.Grow.{kind, sym, place, placeRules};
+ghost use Rattle.tree.specs.Code.{roomOf, grownOf, Stands, branchOf, innerOf, placeFirst, Meets, Places};
 
 // Where the next item of a body is placed, or why it can't be.
 pub enum Placed {
@@ -22,20 +20,41 @@ pub enum Placed {
     Stuck(Fault),
 }
 
-// An item's edge to a new branch.
+// The kind of an item's edge.
+fn kind_of(item: rules::Item) -> u32
+    ensures { λ r. ⌜ r ≡ kind (itemIs item) ⌝ }
+{
+    match item {
+        rules::Item::Con(_) => 0,
+        rules::Item::Slot(_) => 1,
+    }
+}
+
+// And its symbol.
+fn symbol_of(item: rules::Item) -> words::SymbolNo
+    ensures { λ r. ⌜ r .0 ≡ sym (itemIs item) ⌝ }
+{
+    match item {
+        rules::Item::Con(c) => c,
+        rules::Item::Slot(t) => t,
+    }
+}
+
+// An edge with this key to a new branch.
 fn new_branch(
     room: Room,
     c: Counts,
     n: words::NodeNo,
-    item: Item,
+    kind: u32,
+    symbol: words::SymbolNo,
     nodes: &mut [u32],
     edges: &mut [u32],
 ) -> Placed
-    requires { ⌜ Stands room c (now nodes) (now edges) × (item .kind ≤ 1) ⌝ }
-    ensures { λ r. ⌜ Places room (branchOf (roomOf room) (grownOf c (now (nodes .entry)) (now (edges .entry))) (n .0) (itemIs item))
+    requires { ⌜ Stands room c (now nodes) (now edges) ⌝ }
+    ensures { λ r. ⌜ Places room (branchOf (roomOf room) (grownOf c (now (nodes .entry)) (now (edges .entry))) (n .0) kind (symbol .0))
         r (now (nodes .exit)) (now (edges .exit)) ⌝ }
 {
-    let grew = table::add_node(room, c, n, item, 0, nodes, edges);
+    let grew = table::add_node(room, c, n, kind, symbol, words::RuleNo(0), nodes, edges);
     match grew {
         Grew::On(next) => Placed::At(next, words::NodeNo(c.nodes as u32)),
         Grew::Refused(f) => Placed::Stuck(f),
@@ -47,20 +66,21 @@ fn place_inner(
     room: Room,
     c: Counts,
     n: words::NodeNo,
-    item: Item,
+    item: rules::Item,
     nodes: &mut [u32],
     edges: &mut [u32],
 ) -> Placed
-    requires { ⌜ Stands room c (now nodes) (now edges) × (n .0 < c .nodes) × (item .kind ≤ 1) ⌝ }
+    requires { ⌜ Stands room c (now nodes) (now edges) × (n .0 < c .nodes) ⌝ }
     ensures { λ r. ⌜ Places room (innerOf (roomOf room) (grownOf c (now (nodes .entry)) (now (edges .entry))) (n .0) (itemIs item))
         r (now (nodes .exit)) (now (edges .exit)) ⌝ }
 {
     if !table::branch_at(nodes, n) {
         return Placed::Stuck(Fault::Collides);
     }
-    let symbol = item.symbol;
-    let rows::Found::Row(row) = table::look(c, n, item.kind, symbol, edges) else {
-        return new_branch(room, c, n, item, nodes, edges);
+    let kind = kind_of(item);
+    let symbol = symbol_of(item);
+    let rows::Found::Row(row) = table::look(c, n, kind, symbol, edges) else {
+        return new_branch(room, c, n, kind, symbol, nodes, edges);
     };
     let e = rows::read_row(edges, row);
     let to = e.to;
@@ -73,33 +93,23 @@ fn place_last(
     c: Counts,
     rule: words::RuleNo,
     n: words::NodeNo,
-    item: Item,
+    item: rules::Item,
     nodes: &mut [u32],
     edges: &mut [u32],
 ) -> Grew
-    requires { ⌜ Stands room c (now nodes) (now edges) × (n .0 < c .nodes) × (item .kind ≤ 1) ⌝ }
+    requires { ⌜ Stands room c (now nodes) (now edges) × (n .0 < c .nodes) ⌝ }
     ensures { λ r. ⌜ Meets room (place (roomOf room) (rule .0) (itemIs item ∷ []) (grownOf c (now (nodes .entry)) (now (edges .entry))) (n .0))
         r (now (nodes .exit)) (now (edges .exit)) ⌝ }
 {
     if !table::branch_at(nodes, n) {
         return Grew::Refused(Fault::Collides);
     }
-    let symbol = item.symbol;
-    let rows::Found::Nothing = table::look(c, n, item.kind, symbol, edges) else {
+    let kind = kind_of(item);
+    let symbol = symbol_of(item);
+    let rows::Found::Nothing = table::look(c, n, kind, symbol, edges) else {
         return Grew::Refused(Fault::Collides);
     };
-    table::add_node(room, c, n, item, rule.0, nodes, edges)
-}
-
-// The item that starts at word `i` of a body.
-fn item_at(body: &[u32], i: usize) -> Item
-    requires { ⌜ i + itemWidth ≤ length (now body) ⌝ }
-    ensures { λ r. ⌜ r ≡ record { kind = getD (now (body .entry)) i 0; symbol = record { 0 = getD (now (body .entry)) (i + 1) 0 } } ⌝ }
-{
-    Item {
-        kind: body[i],
-        symbol: words::SymbolNo(body[i + 1]),
-    }
+    table::add_node(room, c, n, kind, symbol, rule, nodes, edges)
 }
 
 // A body from node 0.
@@ -111,16 +121,17 @@ fn place_body(
     nodes: &mut [u32],
     edges: &mut [u32],
 ) -> Grew
-    requires { ⌜ Stands room start (now nodes) (now edges) × (0 < length (now body)) × (goodItems (now body) ≡ true) ⌝ }
+    requires { ⌜ Stands room start (now nodes) (now edges) × (0 < length (itemsOf (now body))) ⌝ }
     ensures { λ r. ⌜ Meets room
         (place (roomOf room) (rule .0) (itemsOf (now (body .entry))) (grownOf start (now (nodes .entry)) (now (edges .entry))) 0)
         r (now (nodes .exit)) (now (edges .exit)) ⌝ }
 {
+    let last = rules::items_in(body) - 1;
     let mut c = start;
     let mut n = words::NodeNo(0);
-    let mut i = 0;
-    while words::ITEM_WIDTH < body.len() - i {
-        let placed = place_inner(room, c, n, item_at(body, i), nodes, edges);
+    let mut k = 0;
+    while k < last {
+        let placed = place_inner(room, c, n, rules::item_in(body, k), nodes, edges);
         match placed {
             Placed::At(next, to) => {
                 c = next;
@@ -130,9 +141,9 @@ fn place_body(
                 return Grew::Refused(f);
             }
         }
-        i += words::ITEM_WIDTH;
+        k += 1;
     }
-    place_last(room, c, rule, n, item_at(body, i), nodes, edges)
+    place_last(room, c, rule, n, rules::item_in(body, k), nodes, edges)
 }
 
 // The rule that stands first in a slice is placed, if it is no conversion.

@@ -2,7 +2,6 @@
 use super::Counts;
 use super::Fault;
 use super::Grew;
-use super::Item;
 use super::Room;
 ghost use mathlib.Core.Path.{_≡_};
 ghost use mathlib.Core.List.{List, []};
@@ -12,7 +11,7 @@ ghost use lib.ListN.{length, getD};
 ghost use Rattle.words.specs.Limits.{rowWidth, mostReduces};
 ghost use Rattle.rows.specs.Code.{edgeIs, Holds};
 ghost use Rattle.tree.specs.Grow.{addEdge, addNode};
-ghost use Rattle.tree.specs.Code.{roomOf, itemIs, grownOf, Looks, Rowed, Stands, Rows, Meets};
+ghost use Rattle.tree.specs.Code.{roomOf, grownOf, Looks, Rowed, Stands, Rows, Meets};
 
 // Whether a node is a branch.
 pub fn branch_at(nodes: &[u32], n: words::NodeNo) -> bool
@@ -38,18 +37,22 @@ pub fn look(
     rows::look_up(&edges[0..end], from, kind, symbol)
 }
 
-// An item's edge with no reduces.
-pub fn new_edge(from: words::NodeNo, item: Item, to: words::NodeNo) -> rows::Edge
-    ensures { λ r. ⌜ Holds r (record { from = from .0; kind = item .kind; sym = item .symbol .0; to = to .0; reduces = [] }) ⌝ }
+// An edge with this key and no reduces.
+fn new_edge(
+    from: words::NodeNo,
+    kind: u32,
+    symbol: words::SymbolNo,
+    to: words::NodeNo,
+) -> rows::Edge
+    ensures { λ r. ⌜ Holds r (record { from = from .0; kind = kind; sym = symbol .0; to = to .0; reduces = [] }) ⌝ }
 {
     let none = rows::Reduce {
         rule: words::RuleNo(0),
         offset: 0,
     };
-    let symbol = item.symbol;
     rows::Edge {
         from,
-        kind: item.kind,
+        kind,
         symbol,
         to,
         count: 0,
@@ -73,26 +76,27 @@ pub fn add_edge(room: Room, c: Counts, e: rows::Edge, edges: &mut [u32]) -> Grew
     })
 }
 
-// A node more, with the word `w`, and the item's edge to it from node `from`: 12, then 13.
+// A node more, the leaf of this rule or, where that is 0, a branch, and an edge to it with this key: 12, then 13.
 pub fn add_node(
     room: Room,
     c: Counts,
     from: words::NodeNo,
-    item: Item,
-    w: u32,
+    kind: u32,
+    symbol: words::SymbolNo,
+    rule: words::RuleNo,
     nodes: &mut [u32],
     edges: &mut [u32],
 ) -> Grew
-    requires { ⌜ Stands room c (now nodes) (now edges) × (item .kind ≤ 1) ⌝ }
-    ensures { λ r. ⌜ Meets room (addNode (roomOf room) (grownOf c (now (nodes .entry)) (now (edges .entry))) (from .0) (itemIs item) w)
+    requires { ⌜ Stands room c (now nodes) (now edges) ⌝ }
+    ensures { λ r. ⌜ Meets room (addNode (roomOf room) (grownOf c (now (nodes .entry)) (now (edges .entry))) (from .0) kind (symbol .0) (rule .0))
         r (now (nodes .exit)) (now (edges .exit)) ⌝ }
 {
     let n = c.nodes;
     if room.nodes <= n {
         return Grew::Refused(Fault::NoNode);
     }
-    nodes[n] = w;
-    let e = new_edge(from, item, words::NodeNo(n as u32));
+    nodes[n] = rule.0;
+    let e = new_edge(from, kind, symbol, words::NodeNo(n as u32));
     add_edge(
         room,
         Counts {

@@ -125,17 +125,17 @@ module _ (rules : ℕ) (z : Room) where
   abbrev Longer : ℕ → Grown → Type 0
   Longer n g = Inv rules z g × (n < length (g .nodes))
 
-  module _ (g : Grown) (n : ℕ) (i : Item) (w : ℕ) (v : Inv rules z g) (h : n < length (g .nodes)) (b : getD (g .nodes) n 0 ≡ 0) (o : ItemOk i) (l : w ≤ rules) (d : n ≡ 0 → kind i ≡ 1 → w ≡ 0) where
-    node-keeps : Keeps (Longer (length (g .nodes))) (addNode z g n i w)
+  module _ (g : Grown) (n k s w : ℕ) (v : Inv rules z g) (h : n < length (g .nodes)) (b : getD (g .nodes) n 0 ≡ 0) (o : k ≤ 1) (y : symbol s ≡ true) (l : w ≤ rules) (d : n ≡ 0 → k ≡ 1 → w ≡ 0) where
+    node-keeps : Keeps (Longer (length (g .nodes))) (addNode z g n k s w)
     unfolding addNode
     node-keeps = bind-keeps (Longer (length (g .nodes))) _ noNode (length (g .nodes)) _ λ t.
         edge-keeps (Longer (length (g .nodes))) (record { nodes = g .nodes ++ w ∷ []; edges = g .edges })
-        (record { from = n; kind = kind i; sym = sym i; to = length (g .nodes); reduces = [] }) (node-inv g w v l (ltb-true _ _ t))
+        (record { from = n; kind = k; sym = s; to = length (g .nodes); reduces = [] }) (node-inv g w v l (ltb-true _ _ t))
         (record {
           from-in = simp length-append (omega arith);
           from-branch = List·getD-append (g .nodes) (w ∷ []) 0 n h ∙ b;
-          kind-in = kind-in i;
-          symbol-in = symbol-in i o;
+          kind-in = o;
+          symbol-in = y;
           to-in = simp length-append (omega arith);
           to-inner = λ e. omega (arith, v .fair .some-node);
           level = λ p q. getD-append-seam (g .nodes) w [] 0 ∙ d p q;
@@ -155,7 +155,7 @@ module _ (rules : ℕ) (z : Room) where
   unfolding placeLast
   last-keeps r g n i (some e) v h b a l s = tt
   last-keeps r g n i none v h b a l s =
-      forget (length (g .nodes)) (addNode z g n i r) (node-keeps g n i r v h b a l λ p q. absurd (alone i (s p) q))
+      forget (length (g .nodes)) (addNode z g n (kind i) (sym i) r) (node-keeps g n (kind i) (sym i) r v h b (kind-in i) (symbol-in i a) l λ p q. absurd (alone i (s p) q))
 
   inner-keeps : (g : Grown) (n : ℕ) (i : Item) (rest : Grown → ℕ → Res Fault Grown) (o : Option Edge) → Inv rules z g → n < length (g .nodes) → getD (g .nodes) n 0 ≡ 0 → ItemOk i
       → Found (RowOk rules (g .nodes)) n (kind i) (sym i) o → ((g : Grown) (m : ℕ) → Inv rules z g → m < length (g .nodes) → m ≢ 0 → Keeps (Inv rules z) (rest g m))
@@ -163,7 +163,7 @@ module _ (rules : ℕ) (z : Room) where
   unfolding placeInner
   inner-keeps g n i rest (some e) v h b a d k = k g (e .to) v (d .0 .to-in) (d .0 .to-inner)
   inner-keeps g n i rest none v h b a d k =
-      then-keeps (Inv rules z) (Longer (length (g .nodes))) _ _ (node-keeps g n i 0 v h b a (omega arith) λ p q. refl)
+      then-keeps (Inv rules z) (Longer (length (g .nodes))) _ _ (node-keeps g n (kind i) (sym i) 0 v h b (kind-in i) (symbol-in i a) (omega arith) λ p q. refl)
       λ g′ l. k g′ (length (g .nodes)) (l .0) (l .1) λ e. omega (arith, v .fair .some-node)
 
   place-keeps : (r : ℕ) (b : List Item) (g : Grown) (n : ℕ) → r ≤ rules → All ItemOk b → Inv rules z g → n < length (g .nodes) → (n ≡ 0 → source b ≡ none)

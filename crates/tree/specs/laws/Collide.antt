@@ -231,7 +231,7 @@ module _ (P : Grown → Type 0) (Q : Type 0) where
   after-end true y g p h = good g p
   after-end false y g p h = bad y h
 
-  after-add : (z : Room) (g : Grown) (n : ℕ) (i : Item) (w : ℕ) → P (added g n i w) → After P Q (addNode z g n i w)
+  after-add : (z : Room) (g : Grown) (n : ℕ) (i : Item) (w : ℕ) → P (added g n i w) → After P Q (addNode z g n (kind i) (symOf i) w)
   unfolding addNode addEdge faultNumber
   after-add z g n i w p = after-when _ noNode _ _ (λ _. after-end _ noEdge (added g n i w) p (other noEdge λ e. omega arith)) λ _. other noNode λ e. omega arith
 

@@ -1,66 +1,55 @@
 use Prim.Native.Nat.{_-_}
-use lib.ListN.{length}
-use denote.Ref.{now}
-use borrow.Author.Needs.{needs}
 use native.Mathlib.Omega.{arith}
-use Rattle.tree.proofs.Placing.{Left, left-kind, left-whole, left-more, left-stuck, left-last}
+use borrow.Author.Needs.{needs}
+use denote.Ref.{now}
+use Rattle.rules.specs.Rules.{itemsOf}
+use Rattle.rules.specs.Code.{itemIs}
+use Rattle.tree.proofs.Placing.{Left, left-start, left-more, left-stuck, left-last}
 use Rattle.tree.proofs.place.place_body.Statement.{statement}
 use Rattle.tree.proofs.place.place_body.Tie as tie
 
 abbrev Inv-loop : tie.InvT-loop
-Inv-loop room rule body nodes₀ edges₀ c₀ n₀ i₀ nodes edges c n i = Left room (rule .0) body c₀ nodes₀ edges₀ c nodes edges (n .0) i
+Inv-loop room rule body nodes₀ edges₀ last c₀ n₀ k₀ nodes edges c n k = Left room (rule .0) (itemsOf body) c₀ nodes₀ edges₀ c nodes edges (n .0) k
 
 abbrev μ-loop : tie.MeasureT-loop
-μ-loop room rule body nodes₀ edges₀ c₀ n₀ i₀ nodes edges c n i = length body - i
+μ-loop room rule body nodes₀ edges₀ last c₀ n₀ k₀ nodes edges c n k = last - k
 
-place-inner-requires : tie.Need-place-inner-requires Inv-loop μ-loop
-place-inner-requires c κs =
-    let st = c .before .before .before .before .before .before .before .before in
-    let l = c .before .before .before .before .loop in
-    (l .inv .stands, l .inv .at, rw (c .before .before .item-at .ensures) (left-kind (st .args .room) (st .args .rule .0) (now (st .args .body)) (st .args .start) (now (st .args .nodes)) (now (st .args .edges)) (l .c) (l .nodes) (l .edges) (l .n .0) (l .i) (l .inv)))
+loop-holds : tie.Need-loop-holds Inv-loop μ-loop
+loop-holds c =
+    let st = c .before .before .before .before in
+    left-start (st .args .room) (st .args .rule .0) (itemsOf (now (st .args .body))) (st .args .start) (now (st .args .nodes)) (now (st .args .edges)) (st .pre .0) (st .pre .1)
 
 returns : tie.Need-returns Inv-loop μ-loop
 returns c =
-    let st = c .before .before .before .before .before .before .before .before .before .before .before .before .before .before .before .before in
+    let st = c .before .before .before .before .before .before .before .before .before .before .before .before .before .before .before .before .before in
     let l = c .before .before .before .before .before .before .before .before .before .before .before .before .loop in
+    let it = c .before .before .before .before .before .before .before .before .before .before .item-in in
     let a = c .before .before .before .before .before .before .before .place-inner in
-    left-stuck (st .args .room) (st .args .rule .0) (now (st .args .body)) (st .args .start) (now (st .args .nodes)) (now (st .args .edges)) (l .c) (l .nodes) (l .edges) (l .n .0) (l .i) (l .inv)
-    (c .before .before .before .before .before .before .before .before .before .before .item-at .result) (c .before .before .before .before .before .before .before .before .before .before .item-at .ensures) (a .result) (a .last .1 .1 .1 .1 .0) (a .last .1 .1 .1 .1 .1 .0) (a .ensures) (c .before .before .before .before .before .before .before .before .before .before .before .loop-test .taken)
+    left-stuck (st .args .room) (st .args .rule .0) (itemsOf (now (st .args .body))) (st .args .start) (now (st .args .nodes)) (now (st .args .edges)) (l .c) (l .nodes) (l .edges) (l .n .0) (l .k) (l .inv)
+    (itemIs (it .result)) (it .ensures)
+    (a .result) (a .last .1 .1 .1 .1 .0) (a .last .1 .1 .1 .1 .1 .0) (a .ensures) (omega (arith, c .before .before .before .before .before .before .before .before .before .before .before .loop-test .taken, c .before .before .before .before .before .before .before .before .before .before .before .before .before .items-in .ensures))
     (c .before .placed2 .given .0 .0) (c .before .placed2 .given .1)
-
-add-i : tie.Need-add-i Inv-loop μ-loop
-add-i c =
-    let st = c .before .before .before .before .before .before .before .before .before .before .before .before .before .before .before .before in
-    record { fits = omega (arith, c .before .before .before .before .before .before .before .before .before .before .before .loop-test .taken, st .good .1 .1 .1 .0 .0) }
 
 loop-again : tie.Need-loop-again Inv-loop μ-loop
 loop-again c =
-    let st = c .before .before .before .before .before .before .before .before .before .before .before .before .before .before .before .before in
+    let st = c .before .before .before .before .before .before .before .before .before .before .before .before .before .before .before .before .before in
     let l = c .before .before .before .before .before .before .before .before .before .before .before .before .loop in
+    let it = c .before .before .before .before .before .before .before .before .before .before .item-in in
     let a = c .before .before .before .before .before .before .before .place-inner in
-    left-more (st .args .room) (st .args .rule .0) (now (st .args .body)) (st .args .start) (now (st .args .nodes)) (now (st .args .edges)) (l .c) (l .nodes) (l .edges) (l .n .0) (l .i) (l .inv)
-    (c .before .before .before .before .before .before .before .before .before .before .item-at .result) (c .before .before .before .before .before .before .before .before .before .before .item-at .ensures) (a .result) (a .last .1 .1 .1 .1 .0) (a .last .1 .1 .1 .1 .1 .0) (a .ensures) (c .before .before .before .before .before .before .before .before .before .before .before .loop-test .taken)
+    left-more (st .args .room) (st .args .rule .0) (itemsOf (now (st .args .body))) (st .args .start) (now (st .args .nodes)) (now (st .args .edges)) (l .c) (l .nodes) (l .edges) (l .n .0) (l .k) (l .inv)
+    (itemIs (it .result)) (it .ensures)
+    (a .result) (a .last .1 .1 .1 .1 .0) (a .last .1 .1 .1 .1 .1 .0) (a .ensures) (omega (arith, c .before .before .before .before .before .before .before .before .before .before .before .loop-test .taken, c .before .before .before .before .before .before .before .before .before .before .before .before .before .items-in .ensures))
     (c .before .placed .given .0 .0) (c .before .placed .given .0 .1 .0) (c .before .placed .given .1) (a .kept .1 .1 .1 .1 .0) (a .kept .1 .1 .1 .1 .1 .0)
-
-item-at-requires-2 : tie.Need-item-at-requires-2 Inv-loop μ-loop
-item-at-requires-2 c κs =
-    let st = c .before .before .before .before .before in
-    let l = c .before .loop in
-    left-whole (st .args .room) (st .args .rule .0) (now (st .args .body)) (st .args .start) (now (st .args .nodes)) (now (st .args .edges)) (l .c) (l .nodes) (l .edges) (l .n .0) (l .i) (l .inv)
-
-place-last-requires : tie.Need-place-last-requires Inv-loop μ-loop
-place-last-requires c κs =
-    let st = c .before .before .before .before .before .before .before .before in
-    let l = c .before .before .before .before .loop in
-    (l .inv .stands, l .inv .at, rw (c .before .before .item-at2 .ensures) (left-kind (st .args .room) (st .args .rule .0) (now (st .args .body)) (st .args .start) (now (st .args .nodes)) (now (st .args .edges)) (l .c) (l .nodes) (l .edges) (l .n .0) (l .i) (l .inv)))
 
 returns-2 : tie.Need-returns-2 Inv-loop μ-loop
 returns-2 c =
-    let st = c .before .before .before .before .before .before .before .before .before .before .before .before .before in
+    let st = c .before .before .before .before .before .before .before .before .before .before .before .before .before .before in
     let l = c .before .before .before .before .before .before .before .before .before .loop in
+    let it = c .before .before .before .before .before .before .before .item-in2 in
     let a = c .before .before .before .before .place-last in
-    left-last (st .args .room) (st .args .rule .0) (now (st .args .body)) (st .args .start) (now (st .args .nodes)) (now (st .args .edges)) (l .c) (l .nodes) (l .edges) (l .n .0) (l .i) (l .inv)
-    (c .before .before .before .before .before .before .before .item-at2 .result) (c .before .before .before .before .before .before .before .item-at2 .ensures) (a .result) (a .last .1 .1 .1 .1 .1 .0) (a .last .1 .1 .1 .1 .1 .1 .0) (c .before .before .before .before .before .before .before .before .loop-test .left) (a .ensures)
+    left-last (st .args .room) (st .args .rule .0) (itemsOf (now (st .args .body))) (st .args .start) (now (st .args .nodes)) (now (st .args .edges)) (l .c) (l .nodes) (l .edges) (l .n .0) (l .k) (l .inv)
+    (itemIs (it .result)) (it .ensures)
+    (a .result) (a .last .1 .1 .1 .1 .1 .0) (a .last .1 .1 .1 .1 .1 .1 .0) (omega (arith, c .before .before .before .before .before .before .before .before .loop-test .left, c .before .before .before .before .before .before .before .before .before .before .items-in .ensures)) (a .ensures)
 
 pub place-body-spec : {M : Type 1} → statement M
 place-body-spec =
@@ -68,20 +57,21 @@ place-body-spec =
     (tie.spec
     Inv-loop
     μ-loop
-    (λ c. search needs)
-    (λ c. search needs)
     (λ c κs. search needs)
-    place-inner-requires
+    (λ c. omega (arith, c .items-in .ensures, c .before .before .before .before .pre .1))
+    loop-holds
+    (λ c κs. c .before .loop .inv .inside)
+    (λ c κs. search needs)
     (λ c. search needs)
     (λ c. search needs)
     (λ c. search needs)
     (λ c. search needs)
     returns
-    add-i
+    (λ c. search needs)
     (λ c. search needs)
     loop-again
-    item-at-requires-2
-    place-last-requires
+    (λ c κs. c .before .loop .inv .inside)
+    (λ c κs. search needs)
     (λ c. search needs)
     (λ c. search needs)
     returns-2)

@@ -13,8 +13,7 @@ returns c =
 place-body-requires : tie.Need-place-body-requires
 place-body-requires c κs =
     let st = c .before .before .before .before .before .before .before .before .before in
-    let b = body-some (now (st .args .rule)) (st .pre .1) in
-    (st .pre .0, rw (c .before .before .body-of .ensures) (b .0), rw (c .before .before .body-of .ensures) (b .1))
+    (st .pre .0, rw (c .before .before .body-of .ensures) (body-some (now (st .args .rule)) (st .pre .1)))
 
 returns-2 : tie.Need-returns-2
 returns-2 c =

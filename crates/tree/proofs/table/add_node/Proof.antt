@@ -9,21 +9,21 @@ use Rattle.tree.proofs.table.add_node.Tie as tie
 returns : tie.Need-returns
 returns c =
     let st = c .before .before .before .before in
-    node-refused (st .args .room) (st .args .c) (now (st .args .nodes)) (now (st .args .edges)) (st .pre .0) (st .args .from .0) (st .args .item) (st .args .w) (c .if1 .taken)
+    node-refused (st .args .room) (st .args .c) (now (st .args .nodes)) (now (st .args .edges)) (st .pre) (st .args .from .0) (st .args .kind) (st .args .symbol .0) (st .args .rule .0) (c .if1 .taken)
 
 add-edge-requires : tie.Need-add-edge-requires
 add-edge-requires c κs =
     let st = c .before .before .before .before .before .before in
     let e = c .before .new-edge in
-    (more-nodes (st .args .room) (st .args .c) (now (st .args .edges)) (st .pre .0 .rowed), omega (arith, held-to (e .result) _ (e .ensures)), e .ensures .fits)
+    (more-nodes (st .args .room) (st .args .c) (now (st .args .edges)) (st .pre .rowed), omega (arith, held-to (e .result) _ (e .ensures)), e .ensures .fits)
 
 returns-2 : tie.Need-returns-2
 returns-2 c =
     let st = c .before .before .before .before .before .before .before .before .before in
     let e = c .before .before .before .before .new-edge in
     let a = c .before .before .add-edge in
-    node-added (st .args .room) (st .args .c) (now (st .args .nodes)) (now (st .args .edges)) (st .pre .0) (st .args .from .0) (st .args .item) (st .args .w)
-    (e .result) (a .result) (a .last .1 .1 .1 .0) (search needs) (st .pre .1) (e .ensures) (a .ensures (set (now (st .args .nodes)) (st .args .c .nodes) (st .args .w)))
+    node-added (st .args .room) (st .args .c) (now (st .args .nodes)) (now (st .args .edges)) (st .pre) (st .args .from .0) (st .args .kind) (st .args .symbol .0) (st .args .rule .0)
+    (e .result) (a .result) (a .last .1 .1 .1 .0) (search needs) (e .ensures) (a .ensures (set (now (st .args .nodes)) (st .args .c .nodes) (st .args .rule .0)))
 
 pub add-node-spec : {M : Type 1} → statement M
 add-node-spec =
