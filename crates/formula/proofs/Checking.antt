@@ -3,7 +3,7 @@ use mathlib.Core.Path.{_≡_, refl, sym, ap, subst, _∙_}
 use mathlib.Core.Bool.{Bool, true, false, _&&_}
 use mathlib.Core.Logic.{_≢_}
 use mathlib.Core.List.{List, [], _∷_, _++_}
-use mathlib.Core.Option.{some, Option·some-injective, Option·none-ne-some}
+use mathlib.Core.Option.{some}
 use Prim.Native.Nat.{ℕ, zero, suc, _+_, _*_, _-_, _/_, _%_, _≤_, _<_}
 use native.Mathlib.Omega.{arith}
 use native.Mathlib.Numerals.{add-one}
@@ -11,10 +11,10 @@ use lib.ListN.{length, getD, take, drop, set, getElem?, length-set}
 use lib.Seq.{take-suc, take-suc-set, take-length}
 use lib.Dec.{eqb}
 use borrow.Author.Tests.{eq-eqb, ne-eqb}
-use Rattle.words.specs.Limits.{mostItems, itemWidth, mostRules}
-use Rattle.rules.specs.Rules.{Item, con, slot, bodyWords, itemOf, itemsOf, ruleOf, theRules, goodRules}
+use Rattle.words.specs.Limits.{mostItems, mostRules}
+use Rattle.rules.specs.Rules.{Item, con, slot, ruleOf, theRules, goodRules}
 use Rattle.rules.specs.Code.{aRule, Starts, Missing}
-use Rattle.rules.specs.laws.Words.{good-rule, body-length, body-items, item-at, words-most}
+use Rattle.rules.specs.laws.Words.{to-item, good-rule, body-items, words-most}
 use Rattle.rules.specs.laws.Every.{All, all-append}
 use Rattle.formula.specs.Check.{check}
 use Rattle.formula.specs.Code.{places, Whole, unread, Pending, Stacked, Turned, Fills, Meets, stillOf, facingOf}
@@ -25,48 +25,23 @@ use Rattle.formula.specs.laws.Turns.{start-facing, turn-end, turn-off, t
 
 -- ---- the items of a body
 
-take-last : {A : Type 0} (xs : List A) (j : ℕ) (x : A) → getElem? xs j ≡ some x → take (suc j) xs ≡ take j xs ++ x ∷ []
-take-last [] zero x e = absurd (Option·none-ne-some x e)
-take-last [] (suc j) x e = absurd (Option·none-ne-some x e)
-take-last (y ∷ xs) zero x e = ap (λ z. z ∷ []) (Option·some-injective y x e)
-take-last (y ∷ xs) (suc j) x e = ap (λ (zs : List _). y ∷ zs) (take-last xs j x e)
+-- a good rule has few items
+few-items : (ws : List ℕ) → aRule ws ≡ true → length (ruleOf ws .body) ≤ mostItems
+few-items ws g = let q = good-rule 0 ws g in omega (arith, body-items ws q, q .few)
 
-of-slot : (k s : ℕ) → k ≢ 0 → itemOf k s ≡ slot s
-of-slot zero s h = absurd (h refl)
-of-slot (suc k) s h = refl
-
--- how many items a good rule has
-pub items-count : (ws : List ℕ) → aRule ws ≡ true → (length (bodyWords ws) ≡ itemWidth * length (ruleOf ws .body)) × (length (ruleOf ws .body) ≤ mostItems)
-items-count ws g =
-    let q = good-rule 0 ws g in
-    (omega (arith, body-length ws q, body-items ws q), omega (arith, body-items ws q, q .few))
-
--- the last of the first n items stands at word 2 (n - 1)
-module _ (ws b : List ℕ) (n : ℕ) (g : aRule ws ≡ true) (e : b ≡ bodyWords ws) (h : 1 ≤ n) (k : n ≤ length (ruleOf ws .body)) where
-  pub item-inside : itemWidth * (n - 1) + 1 < length b
-  item-inside = omega (arith, items-count ws g .0, ap length e)
-
-  item-is : take n (ruleOf ws .body) ≡ take (n - 1) (ruleOf ws .body) ++ itemOf (getD b (itemWidth * (n - 1)) 0) (getD b (itemWidth * (n - 1) + 1) 0) ∷ []
-  item-is =
-      let q : n ≡ suc (n - 1) = omega arith in
-      let w : itemWidth * (n - 1) + 1 < length (bodyWords ws) = omega (arith, items-count ws g .0) in
-      ap (λ (m : ℕ). take m (ruleOf ws .body)) q ∙ rw e (take-last (itemsOf (bodyWords ws)) (n - 1) _ (item-at (bodyWords ws) (n - 1) w))
-
-  pub item-con : getD b (itemWidth * (n - 1)) 0 ≡ 0
-      → take n (ruleOf ws .body) ≡ take (n - 1) (ruleOf ws .body) ++ con (getD b (itemWidth * (n - 1) + 1) 0) ∷ []
-  item-con z = rw z at item-is
-
-  pub item-slot : getD b (itemWidth * (n - 1)) 0 ≢ 0
-      → take n (ruleOf ws .body) ≡ take (n - 1) (ruleOf ws .body) ++ slot (getD b (itemWidth * (n - 1) + 1) 0) ∷ []
-  item-slot z = item-is ∙ rw (of-slot (getD b (itemWidth * (n - 1)) 0) (getD b (itemWidth * (n - 1) + 1) 0) z)
+-- the last of the first n items has number n - 1
+pub last-is : (b : List Item) (n : ℕ) (i : Item) → 1 ≤ n → getElem? b (n - 1) ≡ some i → take n b ≡ take (n - 1) b ++ i ∷ []
+last-is b n i h e =
+    let q : n ≡ suc (n - 1) = omega arith in
+    ap (λ (m : ℕ). take m b) q ∙ to-item b (n - 1) i e
 
 -- the word for all of a body: where its rule starts among good rules, and its items
-module _ (rs : List ℕ) (i n : ℕ) (g : goodRules 0 mostRules rs ≡ true) (h : i ≤ length rs) (a : aRule (drop i rs) ≡ true) (e : n ≡ length (bodyWords (drop i rs))) where
-  pub word-fits : i * places + n / itemWidth < 16777216
-  word-fits = let c = items-count (drop i rs) a in omega (arith, c .0, c .1, words-most 0 mostRules rs g)
+module _ (rs : List ℕ) (i n : ℕ) (g : goodRules 0 mostRules rs ≡ true) (h : i ≤ length rs) (a : aRule (drop i rs) ≡ true) (e : n ≡ length (ruleOf (drop i rs) .body)) where
+  pub word-fits : i * places + n < 16777216
+  word-fits = omega (arith, few-items (drop i rs) a, words-most 0 mostRules rs g)
 
-  pub whole-body : Whole rs i (i * places + n / itemWidth)
-  whole-body = let c = items-count (drop i rs) a in record { start = omega (arith, c .0, c .1); all = omega (arith, c .0, c .1) }
+  pub whole-body : Whole rs i (i * places + n)
+  whole-body = let f = few-items (drop i rs) a in record { start = omega (arith, f); all = omega (arith, f) }
 
 -- ---- a slot is faced
 

@@ -15,8 +15,6 @@ use Rattle.formula.specs.declared.Trees as held
 use Rattle.formula.specs.declared.Seek.{Seek}
 use Rattle.formula.specs.declared.Turn.{Turn}
 use Rattle.formula.specs.declared.Turn.the-variants.{On, Ended}
-use Rattle.formula.specs.declared.Item as item
-use Rattle.formula.specs.declared.Item.the-variants.{Con, Slot}
 use Rattle.formula.specs.declared.Reduced.{Reduced}
 use Rattle.formula.specs.declared.Reduced.the-variants.{Done, TooFew, Full}
 
@@ -64,11 +62,6 @@ pub record Gives (room : ℕ) (r : Reduced) (ls ws : List ℕ) (o : Res Why Tree
   pub inside : StillInside room r ls ws
 
 -- ---- the check
-
--- an item that the code holds
-abbrev pub itemIs : item.Item → Item
-itemIs (Con c) = con (c .0)
-itemIs (Slot t) = slot (t .0)
 
 -- more than a body has items
 abbrev pub places : ℕ

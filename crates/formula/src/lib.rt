@@ -6,11 +6,11 @@ ghost use Prim.Native.Nat.{_+_, _-_, _≤_, _<_};
 ghost use lib.ListN.{length, take, drop};
 ghost use Rattle.words.specs.Limits.{mostReduces};
 ghost use Rattle.rules.specs.Rules.{ruleOf, theRules};
-ghost use Rattle.rules.specs.Code.{aRule, someRules};
+ghost use Rattle.rules.specs.Code.{aRule, someRules, itemIs};
 ghost use Rattle.rows.specs.Code.{edgeIs};
 ghost use Rattle.formula.specs.Reducing.{merge, reduce, reduceAll};
 ghost use Rattle.formula.specs.Check.{check};
-ghost use Rattle.formula.specs.Code.{mostRoom, treesOf, Inside, Stands, Gives, itemIs, Whole, Stacked, Turned, Fills, Meets, stillOf};
+ghost use Rattle.formula.specs.Code.{mostRoom, treesOf, Inside, Stands, Gives, Whole, Stacked, Turned, Fills, Meets, stillOf};
 ghost use Rattle.formula.specs.laws.Flat.{total};
 
 // The trees of a walk. The first `len` words of the list are theirs, the first `count` words of the work slice their sizes, the bottom
@@ -173,23 +173,13 @@ enum Turn {
     Ended(bool),
 }
 
-enum Item {
-    Con(words::SymbolNo),
-    Slot(words::SymbolNo),
-}
-
 // The last of the first `left` items of the rule that stands first.
-fn last_item(s: &[u32], left: usize) -> Item
+fn last_item(s: &[u32], left: usize) -> rules::Item
     requires { ⌜ (aRule (now s) ≡ true) × (1 ≤ left) × (left ≤ length (ruleOf (now s) .body)) ⌝ }
     ensures { λ r. ⌜ take left (ruleOf (now (s .entry)) .body) ≡ take (left - 1) (ruleOf (now (s .entry)) .body) ++ itemIs r ∷ [] ⌝ }
 {
     let body = rules::body_of(s);
-    let at = words::ITEM_WIDTH * (left - 1);
-    let symbol = words::SymbolNo(body[at + 1]);
-    if body[at] == 0 {
-        return Item::Con(symbol);
-    }
-    Item::Slot(symbol)
+    rules::item_in(body, left - 1)
 }
 
 // The body of the rule at word `i`, none of it met, as one word.
@@ -198,7 +188,7 @@ fn whole_body(rules: &[u32], i: usize) -> u32
     ensures { λ r. ⌜ Whole (now (rules .entry)) i r ⌝ }
 {
     let body = rules::body_of(&rules[i..]);
-    let items = (body.len() / words::ITEM_WIDTH) as u32;
+    let items = rules::items_in(body) as u32;
     (i as u32) * PLACES + items
 }
 
@@ -270,8 +260,8 @@ fn take_turn(rules: &[u32], tokens: &[u32], list: &[u32], work: &mut [u32], s: S
     let item = last_item(&rules[i..], left);
     work[top] = w - 1;
     match item {
-        Item::Con(symbol) => meet(tokens, s, symbol),
-        Item::Slot(wanted) => fill(rules, list, work, s, wanted),
+        rules::Item::Con(symbol) => meet(tokens, s, symbol),
+        rules::Item::Slot(wanted) => fill(rules, list, work, s, wanted),
     }
 }
 

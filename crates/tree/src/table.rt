@@ -38,7 +38,7 @@ pub fn look(
 }
 
 // An edge with this key and no reduces.
-fn new_edge(
+pub fn new_edge(
     from: words::NodeNo,
     kind: u32,
     symbol: words::SymbolNo,
@@ -56,7 +56,7 @@ fn new_edge(
         symbol,
         to,
         count: 0,
-        reduces: [none, none, none, none, none],
+        reduces: [none; words::MOST_REDUCES as usize],
     }
 }
 

@@ -9,7 +9,8 @@ use lib.ListN.{length, getD, take, drop, length-drop, length-set}
 use Rattle.words.specs.laws.Parts.{part-all}
 use Rattle.rules.specs.Rules.{ruleOf}
 use Rattle.rules.specs.laws.Words.{good-rule}
-use Rattle.formula.specs.Code.{itemIs, places, Pending}
+use Rattle.rules.specs.Code.{itemIs}
+use Rattle.formula.specs.Code.{places, Pending}
 use Rattle.formula.proofs.Checking.{turns-done, top-pending, turns-off, turns-stacked, turns-item}
 use Rattle.formula.proofs.take_turn.Statement.{statement}
 use Rattle.formula.proofs.take_turn.Tie as tie
