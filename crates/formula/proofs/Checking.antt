@@ -1,20 +1,20 @@
 -- The check in lent slices: items, pending bodies as words, and one turn.
-use mathlib.Core.Path.{_≡_, refl, sym, ap, subst, _∙_}
+use mathlib.Core.Path.{_≡_, sym, ap, subst, _∙_}
 use mathlib.Core.Bool.{Bool, true, false, _&&_}
 use mathlib.Core.Logic.{_≢_}
 use mathlib.Core.List.{List, [], _∷_, _++_}
 use mathlib.Core.Option.{some}
-use Prim.Native.Nat.{ℕ, zero, suc, _+_, _*_, _-_, _/_, _%_, _≤_, _<_}
+use Prim.Native.Nat.{ℕ, suc, _+_, _*_, _-_, _/_, _%_, _≤_, _<_}
 use native.Mathlib.Omega.{arith}
 use native.Mathlib.Numerals.{add-one}
 use lib.ListN.{length, getD, take, drop, set, getElem?, length-set}
 use lib.Seq.{take-suc, take-suc-set, take-length}
 use lib.Dec.{eqb}
 use borrow.Author.Tests.{eq-eqb, ne-eqb}
-use Rattle.words.specs.Limits.{mostItems, mostRules}
-use Rattle.rules.specs.Rules.{Item, con, slot, ruleOf, theRules, goodRules}
+use Rattle.words.specs.Limits.{mostRules}
+use Rattle.rules.specs.Rules.{Item, slot, ruleOf, theRules, goodRules}
 use Rattle.rules.specs.Code.{aRule, Starts, Missing}
-use Rattle.rules.specs.laws.Words.{to-item, good-rule, body-items, words-most}
+use Rattle.rules.specs.laws.Words.{to-item, body-count, words-most}
 use Rattle.rules.specs.laws.Every.{All, all-append}
 use Rattle.formula.specs.Check.{check}
 use Rattle.formula.specs.Code.{places, Whole, unread, Pending, Stacked, Turned, Fills, Meets, stillOf, facingOf}
@@ -25,10 +25,6 @@ use Rattle.formula.specs.laws.Turns.{start-facing, turn-end, turn-off, t
 
 -- ---- the items of a body
 
--- a good rule has few items
-few-items : (ws : List ℕ) → aRule ws ≡ true → length (ruleOf ws .body) ≤ mostItems
-few-items ws g = let q = good-rule 0 ws g in omega (arith, body-items ws q, q .few)
-
 -- the last of the first n items has number n - 1
 pub last-is : (b : List Item) (n : ℕ) (i : Item) → 1 ≤ n → getElem? b (n - 1) ≡ some i → take n b ≡ take (n - 1) b ++ i ∷ []
 last-is b n i h e =
@@ -38,10 +34,10 @@ last-is b n i h e =
 -- the word for all of a body: where its rule starts among good rules, and its items
 module _ (rs : List ℕ) (i n : ℕ) (g : goodRules 0 mostRules rs ≡ true) (h : i ≤ length rs) (a : aRule (drop i rs) ≡ true) (e : n ≡ length (ruleOf (drop i rs) .body)) where
   pub word-fits : i * places + n < 16777216
-  word-fits = omega (arith, few-items (drop i rs) a, words-most 0 mostRules rs g)
+  word-fits = omega (arith, body-count 0 (drop i rs) a .1, words-most 0 mostRules rs g)
 
   pub whole-body : Whole rs i (i * places + n)
-  whole-body = let f = few-items (drop i rs) a in record { start = omega (arith, f); all = omega (arith, f) }
+  whole-body = let f = body-count 0 (drop i rs) a .1 in record { start = omega (arith, f); all = omega (arith, f) }
 
 -- ---- a slot is faced
 

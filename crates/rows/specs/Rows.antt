@@ -1,7 +1,7 @@
 -- Nodes and edges, as lists of words say them; the look-up; and when the tables are bad (8).
 -- A node is one word, 0 for a branch, else the leaf's rule. Node 0 is the root.
 -- An edge is 16 words: from, kind (0 constant, 1 variable), symbol, to, count of reduces, five pairs of a rule and an offset, and a zero.
-use Prim.Native.Nat.{ℕ, zero, suc, _+_, _*_, _-_, _/_, _%_}
+use Prim.Native.Nat.{ℕ, zero, suc, _+_, _*_, _/_, _%_}
 use mathlib.Core.Bool.{Bool, true, false, not, _&&_}
 use mathlib.Core.List.{List, [], _∷_, _++_}
 use mathlib.Core.Option.{Option, none, some}

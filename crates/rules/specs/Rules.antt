@@ -2,12 +2,11 @@
 -- A rule's words: its result typecode, the length L of its body, and L pairs: 0 and a constant, or 1 and a slot's typecode.
 use Prim.Native.Nat.{ℕ, zero, suc, _+_, _*_, _-_}
 use mathlib.Core.Bool.{Bool, true, false, not, _&&_}
-use mathlib.Core.List.{List, [], _∷_, _++_}
+use mathlib.Core.List.{List, [], _∷_}
 use mathlib.Core.Option.{Option, none, some}
 use lib.Dec.{leb, ltb, eqb}
 use lib.ListN.{length, getD, take, drop, getElem?}
 use Rattle.words.specs.Limits.{mostSymbol, mostItems, mostRules}
-use Rattle.words.specs.Outcome.{pick}
 
 -- one place of a body
 pub data Item : Type 0 where

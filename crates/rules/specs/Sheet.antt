@@ -1,5 +1,5 @@
 -- The rule sets of the training sheet, as words, and those that pin what its starred rows leave open.
-use Prim.Native.Nat.{ℕ, _+_}
+use Prim.Native.Nat.{ℕ}
 use mathlib.Core.List.{List, [], _∷_, _++_}
 use Rattle.rules.specs.Rules.{Item, con, slot, Rule}
 

@@ -16,10 +16,10 @@ use Rattle.words.specs.Limits.{mostRules}
 use Rattle.words.specs.declared.NodeNo.{NodeNo}
 use Rattle.words.specs.declared.SymbolNo.{SymbolNo}
 use Rattle.rules.specs.Rules.{Item, sizeOf, bodyWords, itemsOf, ruleOf, theRules, source}
-use Rattle.rules.specs.Code.{aRule, someRules, sourceOf}
+use Rattle.rules.specs.Code.{someRules, sourceOf}
 use Rattle.rules.specs.declared.Conversion.{Conversion}
 use Rattle.rules.specs.declared.Conversion.the-variants.{From, No}
-use Rattle.rules.specs.laws.Words.{from-item, good-rule, body-items, rules-most, Ahead, Here, ahead-start, ahead-end, ahead-here}
+use Rattle.rules.specs.laws.Words.{from-item, rules-most, Ahead, Here, ahead-start, ahead-end, ahead-here}
 use Rattle.rows.specs.Rows.{Edge, edgeOf, find}
 use Rattle.rows.specs.Code.{Holds, rowAt}
 use Rattle.rows.specs.declared.Edge as held
@@ -167,10 +167,6 @@ module _ (z : lent.Room) (c : Counts) (ns es : List ℕ) (n : ℕ) (ws : List �
       → Meets z (place (roomOf z) n (itemsOf b) (grownOf c ns es) 0) a ns′ es′ → Meets z (placeFirst (roomOf z) n ws (grownOf c ns es)) a ns′ es′
   unfolding placeRule
   rule-placed b a ns′ es′ h w m = record { answer = rw (← e, h, ← w) (m .answer); stands = m .stands }
-
--- the body of a good rule has an item
-pub body-some : (ws : List ℕ) → aRule ws ≡ true → 0 < length (itemsOf (bodyWords ws))
-body-some ws h = let g = good-rule 0 ws h in omega (arith, body-items ws g, g .filled)
 
 -- ---- the rules, from word i on
 

@@ -1,6 +1,5 @@
 use Prim.Native.Nat.{_+_, _*_, _<_}
 use mathlib.Core.Path.{_≡_, ap, _∙_}
-use mathlib.Core.List.{List}
 use native.Mathlib.Omega.{arith}
 use borrow.Author.Needs.{needs}
 use denote.Ref.{now}

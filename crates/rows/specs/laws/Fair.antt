@@ -14,7 +14,7 @@ use borrow.Author.Tests.{ltb-false, leb-true, leb-false, eqb-true, eqb-false, lt
 use Rattle.words.specs.Limits.{mostNodes, mostEdges, rowWidth, mostReduces, mostOffset}
 use Rattle.words.specs.laws.Tests.{and-l, and-r}
 use Rattle.rules.specs.Rules.{symbol}
-use Rattle.rules.specs.laws.Every.{All, all-getD, chain-at}
+use Rattle.rules.specs.laws.Every.{All, chain-at}
 use Rattle.rows.specs.Rows.{Reduce, Edge, reducesOf, edgeOf, rowsOf, edgesFrom, edgesOf, keyed, find, goodNodes, goodPair, goodPairs, rootToLeaf, goodEnds, goodRow, goodRows, nodesGood, edgesGood, tablesGood}
 
 pub record ReduceOk (rules : ℕ) (d : Reduce) : Type 0 where
@@ -156,6 +156,3 @@ module _ {rules : ℕ} {ns : List ℕ} {es : List Edge} (f : Fair rules ns es) w
   -- the root step never lands on a leaf
   pub root-level : (t : ℕ) (e : Edge) → find es 0 1 t ≡ some e → getD ns (e .to) 0 ≡ 0
   root-level t e h = let r = found (RowOk rules ns) es 0 1 t e (f .rows) h in r .0 .level (r .1) (r .2)
-
-  pub word-in : (n : ℕ) → getD ns n 0 ≤ rules
-  word-in n = all-getD (λ w. w ≤ rules) ns 0 (f .words) (omega arith) n

@@ -3,14 +3,12 @@ use mathlib.Core.Path.{_≡_, refl, sym, ap, _∙_}
 use mathlib.Core.Bool.{Bool, true, false}
 use mathlib.Core.List.{List, [], _∷_, _++_, append-assoc, append-nil}
 use mathlib.Core.Option.{Option, none, some}
-use mathlib.Core.Logic.{_≢_}
 use Prim.Native.Nat.{ℕ, zero, suc, _+_, _*_, _-_, _/_, _≤_, _<_}
 use native.Mathlib.Nat.{sub-zero, suc-add, zero-add}
 use native.Mathlib.Omega.{arith}
-use lib.Dec.{ltb}
 use lib.ListN.{length, getD, take, drop, length-append, length-drop}
-use lib.Seq.{getD-drop, take-at, drop-at, drop-drop, take-take, length-take-le, take-nil}
-use borrow.Author.Tests.{eq-eqb, ltb-true, ltb-false}
+use lib.Seq.{getD-drop, take-at, drop-drop, take-take, length-take-le, take-nil}
+use borrow.Author.Tests.{eq-eqb}
 use Rattle.words.specs.Limits.{rowWidth}
 use Rattle.words.specs.Outcome.{pick}
 use Rattle.rows.specs.Rows.{Edge, edgeOf, rowsFrom, edgesFrom, edgesOf, rowWords, edgeWords, keyed, find}
@@ -158,15 +156,6 @@ find-new es e h =
     let own : keyed (e .from) (e .kind) (e .sym) e ≡ true = rw (eq-eqb (e .from) (e .from) refl, eq-eqb (e .kind) (e .kind) refl, eq-eqb (e .sym) (e .sym) refl) in
     find-append es (e ∷ []) (e .from) (e .kind) (e .sym) ∙ rw h (rw (own, find))
 
--- and by no other
-pub find-other : (es : List Edge) (e : Edge) (n k s : ℕ) → keyed n k s e ≡ false → find (es ++ e ∷ []) n k s ≡ find es n k s
-unfolding find
-find-other es e n k s h = find-append es (e ∷ []) n k s ∙ rw (h, find) (none-after (find es n k s))
-  where
-    none-after : (o : Option Edge) → orElse o none ≡ o
-    none-after none = refl
-    none-after (some d) = refl
-
 pub edgeWords-append : (es fs : List Edge) → edgeWords (es ++ fs) ≡ edgeWords es ++ edgeWords fs
 unfolding edgeWords
 edgeWords-append [] fs = refl
@@ -180,32 +169,6 @@ module _ (ws : List ℕ) (i : ℕ) (e : Edge) (h : i < length ws / rowWidth) whe
 
   pub written-length : length (written ws i e) ≡ length ws
   written-length = simp (length-append, length-drop) (omega (arith, front, row-length e))
-
-  pub written-before : take (rowWidth * i) (written ws i e) ≡ take (rowWidth * i) ws
-  written-before = take-at (take (16 * i) ws) (rowWords e ++ drop (16 * i + 16) ws) (16 * i) front
-
-  -- it is read back
-  pub written-here : rowAt (written ws i e) i ≡ rowWords e
-  written-here = rw (drop-at (take (16 * i) ws) (rowWords e ++ drop (16 * i + 16) ws) (16 * i) front) (take-at (rowWords e) (drop (16 * i + 16) ws) 16 (row-length e))
-
-  -- the others stay
-  pub written-other : (j : ℕ) → j ≢ i → rowAt (written ws i e) j ≡ rowAt ws j
-  written-other j d = go (ltb j i) refl
-    where
-      after : drop (16 * i + 16) (written ws i e) ≡ drop (16 * i + 16) ws
-      after =
-          sym (drop-drop 16 (16 * i) (written ws i e))
-          ∙ rw (drop-at (take (16 * i) ws) (rowWords e ++ drop (16 * i + 16) ws) (16 * i) front) (drop-at (rowWords e) (drop (16 * i + 16) ws) 16 (row-length e))
-
-      go : (b : Bool) → ltb j i ≡ b → rowAt (written ws i e) j ≡ rowAt ws j
-      go true t = same-rows (written ws i e) ws i j written-before (ltb-true j i t)
-      go false t =
-          let g : i ≤ j = ltb-false j i t in
-          let k = 16 * j - (16 * i + 16) in
-          let m : 16 * i + 16 + k ≡ 16 * j = omega (arith, d) in
-          let rest : drop (16 * j) (written ws i e) ≡ drop (16 * j) ws =
-          rw m at (sym (drop-drop k (16 * i + 16) (written ws i e)) ∙ ap (λ (us : List ℕ). drop k us) after ∙ drop-drop k (16 * i + 16) ws) in
-          ap (λ (us : List ℕ). take 16 us) rest
 
 -- the rows are these edges, and one more is written after them
 pub written-next : (ws : List ℕ) (es : List Edge) (e : Edge) → length es < length ws / rowWidth → take (rowWidth * length es) ws ≡ edgeWords es

@@ -10,7 +10,7 @@ use lib.ListN.{length, getD, drop, length-append}
 use lib.Seq.{take-at, drop-at, drop-drop, getD-drop}
 use borrow.Author.Tests.{lt-ltb, le-ltb, le-leb, lt-leb, eq-eqb, ne-eqb, eqb-true}
 use Rattle.words.specs.Limits.{mostNodes, mostEdges, rowWidth, mostReduces, mostOffset}
-use Rattle.rules.specs.laws.Every.{All, all-map}
+use Rattle.rules.specs.laws.Every.{All}
 use Rattle.rows.specs.Rows.{Reduce, Edge, reducesOf, edgeOf, rowsFrom, rowsOf, edgesFrom, edgesOf, reduceWords, rowWords, edgeWords, goodNodes, goodPair, goodPairs, rootToLeaf, goodEnds, goodRow, goodRows, nodesGood, edgesGood, tablesGood}
 use Rattle.rows.specs.laws.Fair.{ReduceOk, RowOk, Fair}
 
@@ -159,6 +159,3 @@ fair-pass rules ns es n m f =
       le-ltb mostEdges (length es) m,
       rows-pass rules ns es (f .rows),
     )
-
-pub fair-back : (rules : ℕ) (ns : List ℕ) (es : List Edge) → All (RowOk rules ns) es → edgesOf (edgeWords es) ≡ es
-fair-back rules ns es a = edges-back es (all-map (RowOk rules ns) Short (λ e r. r .few) es a)

@@ -19,11 +19,6 @@ module _ {A : Type 0} (P : A → Type 0) where
   all-map Q h [] a = tt
   all-map Q h (x ∷ xs) a = (h x (a .0), all-map Q h xs (a .1))
 
-  pub all-getD : (xs : List A) (d : A) → All P xs → P d → (n : ℕ) → P (getD xs n d)
-  all-getD [] d a h n = h
-  all-getD (x ∷ xs) d a h zero = a .0
-  all-getD (x ∷ xs) d a h (suc n) = all-getD xs d (a .1) h n
-
 -- a && b && .., as it is bracketed
 abbrev pub chain : Bool → List Bool → Bool
 chain a [] = a

@@ -3,15 +3,13 @@ use mathlib.Core.Path.{_≡_}
 use mathlib.Core.Bool.{true, not, _&&_}
 use mathlib.Core.List.{List, [], _∷_}
 use Prim.Native.Nat.{ℕ, zero, suc, _≤_}
-use native.Mathlib.Nat.{not-suc-le-zero}
-use native.Mathlib.Omega.{arith}
-use lib.Dec.{leb, ltb, eqb}
-use lib.ListN.{length, getD, length-take, length-drop}
-use borrow.Author.Tests.{ltb-false, not-true}
-use Rattle.words.specs.Limits.{mostItems, mostRules}
+use lib.Dec.{ltb, eqb}
+use lib.ListN.{length}
+use Rattle.words.specs.Limits.{mostRules}
 use Rattle.words.specs.laws.Tests.{and-l, and-r}
-use Rattle.rules.specs.Rules.{Item, con, slot, Rule, sizeOf, bodyWords, restOf, itemOf, itemsOf, ruleOf, rulesOf, theRules, symbol, goodItems, goodHead, equalEnds, goodRule, goodRules, rulesGood}
+use Rattle.rules.specs.Rules.{Item, con, slot, Rule, bodyWords, restOf, itemOf, itemsOf, ruleOf, rulesOf, theRules, symbol, goodItems, goodRule, goodRules, rulesGood}
 use Rattle.rules.specs.laws.Every.{All, chain-at}
+use Rattle.rules.specs.laws.Words.{good-rule, body-count}
 
 abbrev pub ItemOk : Item → Type 0
 ItemOk (con c) = symbol c ≡ true
@@ -36,22 +34,8 @@ items-ok-of (k ∷ s ∷ ws) g =
     let c = chain-at (not (ltb 1 k)) (symbol s ∷ goodItems ws ∷ []) g in
     (item-ok k s (c 1), items-ok-of ws (c 2))
 
-some-item-of : (ws : List ℕ) → 2 ≤ length ws → 1 ≤ length (itemsOf ws)
-unfolding itemsOf
-some-item-of [] h = absurd (not-suc-le-zero h)
-some-item-of (k ∷ []) h = omega arith
-some-item-of (k ∷ s ∷ ws) h = omega arith
-
 rule-ok : (p : ℕ) (ws : List ℕ) → goodRule p ws ≡ true → RuleOk (ruleOf ws)
-unfolding goodRule goodHead
-rule-ok p ws g =
-    let t = getD ws 0 0 in
-    let n = getD ws 1 0 in
-    let c = chain-at (not (ltb (length ws) 2)) (goodHead p t n ∷ not (ltb (length ws) (sizeOf ws)) ∷ goodItems (bodyWords ws) ∷ not (equalEnds ws) ∷ []) g in
-    let d = chain-at (not (eqb t p)) (symbol t ∷ not (ltb n 1) ∷ leb n mostItems ∷ []) (c 1) in
-    let some : 1 ≤ n = ltb-false n 1 (not-true _ (d 2)) in
-    let whole : sizeOf ws ≤ length ws = ltb-false (length ws) (sizeOf ws) (not-true _ (c 2)) in
-    record { some-item = some-item-of (bodyWords ws) (simp (length-take, length-drop) (omega arith)); items-ok = items-ok-of (bodyWords ws) (c 3) }
+rule-ok p ws g = record { some-item = body-count p ws g .0; items-ok = items-ok-of (bodyWords ws) (good-rule p ws g .items) }
 
 pub proper : (p k : ℕ) (ws : List ℕ) → goodRules p k ws ≡ true → Proper (rulesOf k ws)
 unfolding goodRules rulesOf

@@ -15,7 +15,7 @@ use borrow.Author.Tests.{ltb-true, ltb-false, leb-true, not-true, ne-eqb}
 use Rattle.words.specs.Limits.{mostItems, mostRules}
 use Rattle.words.specs.Outcome.{pick}
 use Rattle.words.specs.laws.Tests.{and-l, and-r, by-test}
-use Rattle.rules.specs.Rules.{Item, con, slot, Rule, itemWidth, sizeOf, bodyWords, restOf, itemOf, itemsOf, ruleOf, rulesOf, theRules, ruleAt, slots, source, symbol, goodItems, goodHead, equalEnds, goodRule, goodRules, rulesGood, Stretch, noStretch, stretchFrom}
+use Rattle.rules.specs.Rules.{Item, con, slot, Rule, itemWidth, sizeOf, bodyWords, restOf, itemOf, itemsOf, ruleOf, rulesOf, theRules, ruleAt, slots, source, symbol, goodItems, goodHead, goodRule, goodRules, rulesGood, Stretch, noStretch, stretchFrom}
 
 -- ---- a body, from word i on
 
@@ -134,12 +134,6 @@ pub slots-end : (ws : List ℕ) (i : ℕ) → length ws ≤ i → slots (itemsOf
 unfolding slots
 slots-end ws i h = rw (items-end ws i h)
 
-pub slots-most : (b : List Item) → slots b ≤ length b
-unfolding slots
-slots-most [] = omega arith
-slots-most (con c ∷ b) = omega (arith, slots-most b)
-slots-most (slot t ∷ b) = omega (arith, slots-most b)
-
 -- ---- a good rule that stands first
 
 pub record GoodRule (ws : List ℕ) : Type 0 where
@@ -149,7 +143,6 @@ pub record GoodRule (ws : List ℕ) : Type 0 where
   pub few : getD ws 1 0 ≤ mostItems
   pub fits : sizeOf ws ≤ length ws
   pub items : goodItems (bodyWords ws) ≡ true
-  pub moves : equalEnds ws ≡ false
 
 pub good-rule : (p : ℕ) (ws : List ℕ) → goodRule p ws ≡ true → GoodRule ws
 unfolding goodRule goodHead
@@ -158,7 +151,6 @@ good-rule p ws e =
     let a : not (ltb (getD ws 1 0) 1) ≡ true = search (and-l, and-r) in
     let b : leb (getD ws 1 0) mostItems ≡ true = search (and-l, and-r) in
     let f : not (ltb (length ws) (sizeOf ws)) ≡ true = search (and-l, and-r) in
-    let m : not (equalEnds ws) ≡ true = search (and-l, and-r) in
     record {
       two = ltb-false (length ws) 2 (not-true (ltb (length ws) 2) l);
       result = search (and-l, and-r) depth 7;
@@ -166,7 +158,6 @@ good-rule p ws e =
       few = leb-true (getD ws 1 0) mostItems b;
       fits = ltb-false (length ws) (sizeOf ws) (not-true (ltb (length ws) (sizeOf ws)) f);
       items = search (and-l, and-r);
-      moves = not-true (equalEnds ws) m;
     }
 
 -- the body of a good rule
@@ -175,6 +166,9 @@ body-length ws g = length-take-le (sizeOf ws - 2) (drop 2 ws) (omega (arith, len
 
 pub body-items : (ws : List ℕ) → GoodRule ws → length (itemsOf (bodyWords ws)) ≡ getD ws 1 0
 body-items ws g = omega (arith, items-count (bodyWords ws), body-length ws g)
+
+pub body-count : (p : ℕ) (ws : List ℕ) → goodRule p ws ≡ true → (1 ≤ length (ruleOf ws .body)) × (length (ruleOf ws .body) ≤ mostItems)
+body-count p ws e = let g = good-rule p ws e in (omega (arith, body-items ws g, g .filled), omega (arith, body-items ws g, g .few))
 
 pub body-word : (ws : List ℕ) (j : ℕ) → j < itemWidth * getD ws 1 0 → getD (bodyWords ws) j 0 ≡ getD ws (2 + j) 0
 body-word ws j h = getD-take (sizeOf ws - 2) (drop 2 ws) j 0 (omega arith) ∙ getD-drop 2 ws j 0

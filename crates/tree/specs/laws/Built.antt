@@ -17,9 +17,9 @@ use Rattle.words.specs.laws.Tests.{and-r}
 use Rattle.rules.specs.Rules.{Item, con, slot, Rule, theRules, source, symbol, rulesGood}
 use Rattle.rules.specs.laws.Every.{All, all-append, all-map}
 use Rattle.rules.specs.laws.Proper.{ItemOk, RuleOk, Proper, rules-proper}
-use Rattle.rows.specs.Rows.{Reduce, Edge, edgesOf, edgeWords, withReduce, tablesGood}
+use Rattle.rows.specs.Rows.{Reduce, Edge, edgeWords, withReduce, tablesGood}
 use Rattle.rows.specs.laws.Fair.{ReduceOk, RowOk, Fair, Found, find-found}
-use Rattle.rows.specs.laws.Words.{fair-pass, fair-back}
+use Rattle.rows.specs.laws.Words.{fair-pass}
 use Rattle.tree.specs.Grow.{Grown, Room, kind, sym, branchAt, addEdge, addNode, placeLast, placeInner, place, placeRule, placeRules, addConverted, converted, offsetOn, copyRow, copyBranches, apart, convertTo, convertAt, convertNodes, convert, convertAll, rootAlone, grow}
 
 -- fair tables that the room holds
@@ -303,6 +303,3 @@ pub built-tables-pass : (p l : ℕ) (ws : List ℕ) (z : Room) → z .nodes ≤ 
 built-tables-pass p l ws z n m r g e =
     let v = built-inv p l ws z r g e in
     fair-pass (length (theRules ws)) (g .nodes) (g .edges) (omega (arith, v .nodes-in)) (omega (arith, v .edges-in)) (v .fair)
-
-pub built-read : (p l : ℕ) (ws : List ℕ) (z : Room) → rulesGood p l ws ≡ true → (g : Grown) → grow z (theRules ws) ≡ ok g → edgesOf (edgeWords (g .edges)) ≡ g .edges
-built-read p l ws z r g e = fair-back (length (theRules ws)) (g .nodes) (g .edges) (built-inv p l ws z r g e .fair .rows)

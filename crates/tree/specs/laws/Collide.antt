@@ -10,13 +10,13 @@ use native.Mathlib.Omega.{arith}
 use lib.Dec.{eqb}
 use lib.ListN.{length, length-append, List·getD-append}
 use lib.Seq.{getD-append-seam}
-use borrow.Author.Tests.{eqb-true, eq-eqb, ne-eqb, ltb-true, lt-ltb}
+use borrow.Author.Tests.{eqb-true, ne-eqb, ltb-true, lt-ltb}
 use Rattle.words.specs.Outcome.{Res, ok, no, bind, when}
 use Rattle.words.specs.Numbers.{Fault, collides, noNode, noEdge, sixthReduce, badCopy, faultNumber}
 use Rattle.words.specs.laws.Tests.{and-l, and-r}
 use Rattle.rules.specs.Rules.{Item, con, slot, Rule, source}
 use Rattle.rows.specs.Rows.{Reduce, Edge, keyed, find}
-use Rattle.rows.specs.laws.Lookup.{orElse, find-append}
+use Rattle.rows.specs.laws.Lookup.{orElse, find-append, find-kept, find-new}
 use Rattle.tree.specs.Grow.{Grown, Room, kind, sym as symOf, edgeFor, branchAt, addEdge, addNode, placeLast, placeInner, place, placeRule, placeRules, rootAlone, grow}
 use Rattle.tree.specs.Grow.{addConverted, copyRow, copyBranches, convertTo, convertAt, convertNodes, convert, convertAll}
 
@@ -37,19 +37,11 @@ abbrev added : Grown → ℕ → Item → ℕ → Grown
 added g n i w = record { nodes = g .nodes ++ w ∷ []; edges = g .edges ++ row g n i ∷ [] }
 
 edge-kept : (g : Grown) (n : ℕ) (i : Item) (w m : ℕ) (j : Item) (e : Edge) → edgeFor g m j ≡ some e → edgeFor (added g n i w) m j ≡ some e
-edge-kept g n i w m j e h = find-append (g .edges) (row g n i ∷ []) m (kind j) (symOf j) ∙ rw h refl
+edge-kept g n i w m j e h = find-kept (g .edges) (row g n i ∷ []) m (kind j) (symOf j) e h
 
 -- the new row is found by its own key
 edge-made : (g : Grown) (n : ℕ) (i : Item) (w : ℕ) → edgeFor g n i ≡ none → edgeFor (added g n i w) n i ≡ some (row g n i)
-unfolding find keyed
-edge-made g n i w h = find-append (g .edges) (row g n i ∷ []) n (kind i) (symOf i) ∙ rw h (found (keyed n (kind i) (symOf i) (row g n i)) own)
-  where
-    own : keyed n (kind i) (symOf i) (row g n i) ≡ true
-    own = rw (eq-eqb n n refl, eq-eqb (kind i) (kind i) refl, eq-eqb (symOf i) (symOf i) refl) refl
-
-    found : (b : Bool) → b ≡ true → elim b [ true ↦ some (row g n i) | false ↦ none ] ≡ some (row g n i)
-    found true t = refl
-    found false t = absurd (false≢true t)
+edge-made g n i w h = find-new (g .edges) (row g n i) h
 
 data New (g : Grown) (n : ℕ) (i : Item) (m : ℕ) (j : Item) (e : Edge) : Type 0 where
   old : edgeFor g m j ≡ some e → New g n i m j e

@@ -1,6 +1,6 @@
 -- Growing, computed on rules that pin each of its clauses.
 use mathlib.Core.Path.{_≡_, refl}
-use mathlib.Core.Bool.{Bool, true, false, _&&_}
+use mathlib.Core.Bool.{Bool, true, _&&_}
 use mathlib.Core.List.{List, [], _∷_, _++_}
 use Prim.Native.Nat.{ℕ, zero, suc, _+_}
 use lib.Dec.{eqb}
@@ -10,7 +10,7 @@ use Rattle.words.specs.Outcome.{Res, ok, no}
 use Rattle.words.specs.Numbers.{Fault, faultNumber}
 use Rattle.rules.specs.Rules.{Item, con, slot, Rule, theRules, reading}
 use Rattle.rules.specs.Sheet.{rule, rules-S, words-S10, words-T, words-U, words-V, sets}
-use Rattle.rows.specs.Rows.{Reduce, Edge}
+use Rattle.rows.specs.Rows.{Reduce}
 use Rattle.rows.specs.Sheet.{edge, five, nodes-S, edges-S, tables}
 use Rattle.tree.specs.Grow.{Grown, Room, grow, placeRules, rootAlone, growing}
 

@@ -1,5 +1,6 @@
 use denote.Ref.{now}
-use Rattle.tree.proofs.Placing.{rule-skipped, rule-placed, body-some}
+use Rattle.rules.specs.laws.Words.{body-count}
+use Rattle.tree.proofs.Placing.{rule-skipped, rule-placed}
 use borrow.Author.Needs.{needs}
 use Rattle.tree.proofs.place.place_rule.Statement.{statement}
 use Rattle.tree.proofs.place.place_rule.Tie as tie
@@ -13,7 +14,7 @@ returns c =
 place-body-requires : tie.Need-place-body-requires
 place-body-requires c κs =
     let st = c .before .before .before .before .before .before .before .before .before in
-    (st .pre .0, rw (c .before .before .body-of .ensures) (body-some (now (st .args .rule)) (st .pre .1)))
+    (st .pre .0, rw (c .before .before .body-of .ensures) (body-count 0 (now (st .args .rule)) (st .pre .1) .0))
 
 returns-2 : tie.Need-returns-2
 returns-2 c =
