@@ -6,6 +6,7 @@ use mathlib.Core.Logic.{_≢_, _↔_}
 use Prim.Native.Nat.{ℕ, zero, suc, _≤_}
 use native.Mathlib.Omega.{arith}
 use Rattle.words.specs.Outcome.{Demand, demand, firstFault}
+use Rattle.words.specs.Numbers.{accepted}
 
 -- the first demand passes: the others decide
 pub met : {b : Bool} → b ≡ true → (k : ℕ) (ds : List Demand) → firstFault (demand b k ∷ ds) ≡ firstFault ds
@@ -20,17 +21,17 @@ unmet e k ds = rw e
 -- no fault: the first demand passed, and so did the others
 pub record Clear (b : Bool) (ds : List Demand) : Type 0 where
   pub passed : b ≡ true
-  pub others : firstFault ds ≡ 0
+  pub others : firstFault ds ≡ accepted
 
-clear-by : (b : Bool) (k : ℕ) (ds : List Demand) → k ≢ 0 → firstFault (demand b k ∷ ds) ≡ 0 → Clear b ds
+clear-by : (b : Bool) (k : ℕ) (ds : List Demand) → k ≢ accepted → firstFault (demand b k ∷ ds) ≡ accepted → Clear b ds
 unfolding firstFault
 clear-by true k ds z h = record { passed = refl; others = h }
 clear-by false k ds z h = absurd (z h)
 
-pub clear : (b : Bool) (k : ℕ) (ds : List Demand) → 1 ≤ k → firstFault (demand b k ∷ ds) ≡ 0 → Clear b ds
+pub clear : (b : Bool) (k : ℕ) (ds : List Demand) → 1 ≤ k → firstFault (demand b k ∷ ds) ≡ accepted → Clear b ds
 clear b k ds z h = clear-by b k ds (λ e. omega arith) h
 
--- whatever holds of 0 and of each demand's number holds of the answer
+-- whatever holds of no fault and of each demand's number holds of the answer
 pub data Each (P : ℕ → Type 0) : List Demand → Type 0 where
   none-left : Each P []
   one-more : {b : Bool} {k : ℕ} {ds : List Demand} → P k → Each P ds → Each P (demand b k ∷ ds)
@@ -40,7 +41,7 @@ unfolding firstFault
 fault-by P true k ds h r = r
 fault-by P false k ds h r = h
 
-pub fault-is : (P : ℕ → Type 0) → P 0 → {ds : List Demand} → Each P ds → P (firstFault ds)
+pub fault-is : (P : ℕ → Type 0) → P accepted → {ds : List Demand} → Each P ds → P (firstFault ds)
 unfolding firstFault
 fault-is P z none-left = z
 fault-is P z (one-more {b} {k} {ds} h r) = fault-by P b k ds h (fault-is P z r)
