@@ -238,25 +238,36 @@ static void check_empty(void) {
     }
 }
 
-void check_in_pages(void) {
-    grounds g;
-    open_grounds(&g, 1);
-    check_cuts(&g);
-    check_small(&g);
-    check_random(&g);
-    close_grounds(&g);
-    open_grounds(&g, 1 + LONG_LIST * sizeof(uint32_t) / 4096);
-    check_long(&g);
-    close_grounds(&g);
+/* Calls with every slice against forbidden pages or, without grounds, in a block. */
+static void check_short(const grounds *g) {
+    test("each slice cut at every word");
+    check_cuts(g);
+    test("all combinations of small lengths");
+    check_small(g);
+    test("single words changed at random");
+    check_random(g);
+}
+
+static void check_others(const grounds *g) {
+    test("the longest statement, in enough room and in one word less");
+    check_long(g);
+    test("empty slices with any pointer");
     check_empty();
 }
 
+void check_in_pages(void) {
+    grounds g;
+    open_grounds(&g, 1);
+    check_short(&g);
+    close_grounds(&g);
+    open_grounds(&g, 1 + LONG_LIST * sizeof(uint32_t) / 4096);
+    check_others(&g);
+    close_grounds(&g);
+}
+
 void check_in_memory(void) {
-    check_cuts(NULL);
-    check_small(NULL);
-    check_random(NULL);
-    check_long(NULL);
-    check_empty();
+    check_short(NULL);
+    check_others(NULL);
 }
 
 /* ---- the traps themselves */
@@ -285,6 +296,7 @@ static void check_trap(const grounds *g, const call *c, int end, int kind) {
 
 void check_traps(void) {
     grounds g;
+    test("the forbidden pages can't be touched");
     open_grounds(&g, 1);
     for (int i = 0; i < ENDS * SLICES; i++) {
         call c = accepted(PARSE);

@@ -266,14 +266,23 @@ static void check_set_t(void) {
 }
 
 void check_sheet(void) {
-    check_bodies();
-    check_builds();
-    check_refused_builds();
-    check_rows();
-    check_rooms();
-    check_refused_parses();
-    check_uncut_tables();
-    check_longest();
-    check_verifies();
-    check_set_t();
+    static const struct {
+        const char *name;
+        void (*run)(void);
+    } tests[] = {
+        {"bodies", check_bodies},
+        {"builds of set S", check_builds},
+        {"refused builds", check_refused_builds},
+        {"rows of the sheet", check_rows},
+        {"the ten-pass sentence in little room", check_rooms},
+        {"refused parses, in their order", check_refused_parses},
+        {"tables that were not cut", check_uncut_tables},
+        {"the longest statement", check_longest},
+        {"the check alone", check_verifies},
+        {"set T", check_set_t},
+    };
+    for (size_t i = 0; i < LENGTH(tests); i++) {
+        test(tests[i].name);
+        tests[i].run();
+    }
 }

@@ -4,6 +4,7 @@
 //! comparisons found; says on standard error how far it is.
 
 use jiehkavon::words::{self, Answer, Built};
+use jiehkavon::Room as Enough;
 use std::collections::BTreeMap;
 use std::io::Write as _;
 use std::process::{Command, ExitCode, Stdio};
@@ -64,18 +65,19 @@ struct Room {
 
 impl Room {
     fn new(statements: &[Statement]) -> Self {
-        let longest = statements.iter().map(|s| s.tokens.len()).max().unwrap_or(0);
+        let rooms = statements.iter().map(|s| Enough::for_tokens(s.tokens.len()));
+        let (frames, list) = rooms.fold((0, 0), |(frames, list), r| (r.frames.max(frames), r.list.max(list)));
         Room {
-            frames: vec![0; longest],
-            list: vec![0; 17 * longest],
-            work: vec![0; 17 * longest],
+            frames: vec![0; frames],
+            list: vec![0; list],
+            work: vec![0; list],
         }
     }
 
-    /// A parse with just the room that is proved to be enough for `n` tokens after the typecode: 4n passes, n frames, 17n list entries.
+    /// A parse with the room that is proved to be enough.
     fn parse(&mut self, g: &Grammar, tokens: &[u32]) -> Answer {
-        let (d, n) = (g.database, tokens.len().saturating_sub(1));
-        let (frames, list, work) = (&mut self.frames[..n], &mut self.list[..17 * n], &mut self.work[..17 * n]);
+        let (d, enough) = (g.database, Enough::for_tokens(tokens.len()));
+        let (frames, list, work) = (&mut self.frames[..enough.frames], &mut self.list[..enough.list], &mut self.work[..enough.list]);
         words::parse(
             d.provable,
             d.logic,
@@ -83,7 +85,7 @@ impl Room {
             &g.nodes,
             &g.edges,
             tokens,
-            4 * n as u32,
+            enough.allowance,
             frames,
             list,
             work,
