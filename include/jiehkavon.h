@@ -119,7 +119,7 @@ jiehkavon_answer jiehkavon_parse(
     uint32_t *list, size_t list_length,
     uint32_t *work, size_t work_length);
 
-/* Checks a list, whoever made it: 0 exactly if it is a well typed tree of the wanted typecode that spells the
+/* Checks a list, whoever made it: 0 exactly if its tree is well typed, has the wanted typecode and spells the
  * statement, else 4. Before that come 10, 1, 9, and 7 for a work slice shorter than the list. `work` is zero
  * afterwards. */
 jiehkavon_answer jiehkavon_verify(

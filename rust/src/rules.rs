@@ -49,8 +49,8 @@ impl Rules {
         Ok(rules)
     }
 
-    /// A further rule, and its number. A variable is a rule whose body is one constant, the variable's own symbol; a rule whose whole body is
-    /// one slot is a conversion.
+    /// A further rule, and its number. A variable is a rule whose body is one constant, the variable's own symbol; a conversion is one whose
+    /// body is one slot.
     pub fn push(&mut self, result: Symbol, items: &[Item]) -> RuleNo {
         self.heads.push(Head {
             result,

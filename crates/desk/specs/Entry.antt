@@ -151,7 +151,7 @@ verifyGives provable logic rules tokens list work = record {
 
 -- ---- what an accepted list means
 
--- a well typed tree of the stated typecode, the logic one where the provable one is stated, that spells the statement token for token
+-- a well typed tree, of the typecode that the statement wants, that spells the tokens after its first
 abbrev pub Means : List Rule → ℕ → ℕ → List ℕ → List ℕ → Type 0
 Means R provable logic [] l = ⊥
 Means R provable logic (t ∷ xs) l = Tree R (wantedOf provable logic t) xs l

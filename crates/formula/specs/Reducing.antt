@@ -23,7 +23,7 @@ flat (t ∷ s) = flat s ++ t
 unfoldable pub merge : ℕ → ℕ → ℕ → Trees → Trees
 merge r k o s = take o s ++ (flat (take k (drop o s)) ++ r ∷ []) ∷ drop (o + k) s
 
--- 4 if there are fewer than o + k trees, else 7 if the list is full
+-- too few trees are 4; enough of them, and no room for the entry, 7
 unfoldable pub reduceBy : ℕ → ℕ → ℕ → Trees → Option Rule → Res Why Trees
 reduceBy room r o s none = no misfit
 reduceBy room r o s (some q) =

@@ -1,6 +1,7 @@
 -- Nodes and edges, as lists of words say them; the look-up; and when the tables are bad (8).
--- A node is one word, 0 for a branch, else the leaf's rule. Node 0 is the root.
--- An edge is 16 words: from, kind (0 constant, 1 variable), symbol, to, count of reduces, five pairs of a rule and an offset, and a zero.
+-- A node is a word: the rule of a leaf, and 0 where there is none, at a branch. The root is node 0.
+-- An edge is 16 words: the node it leaves, its kind (a constant's is 0, a variable's 1), its symbol, the node it leads to, how many reduces it
+-- has, room for five of them, each by its rule and offset, and a last word that is 0.
 use Prim.Native.Nat.{ℕ, zero, suc, _+_, _*_, _/_, _%_}
 use mathlib.Core.Bool.{Bool, true, false, not, _&&_}
 use mathlib.Core.List.{List, [], _∷_, _++_}

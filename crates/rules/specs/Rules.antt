@@ -1,5 +1,5 @@
 -- Rules, as a list of words says them, and when the words are bad (10).
--- A rule's words: its result typecode, the length L of its body, and L pairs: 0 and a constant, or 1 and a slot's typecode.
+-- A rule's words: its result typecode, how many items its body has, and the items, each by its kind, 0 or 1, and its constant or typecode.
 use Prim.Native.Nat.{ℕ, zero, suc, _+_, _*_, _-_}
 use mathlib.Core.Bool.{Bool, true, false, not, _&&_}
 use mathlib.Core.List.{List, [], _∷_}
@@ -65,7 +65,7 @@ slots [] = 0
 slots (con c ∷ b) = slots b
 slots (slot t ∷ b) = suc (slots b)
 
--- a rule whose whole body is one slot is a conversion, from the slot's typecode
+-- where a body is one slot and nothing else the rule converts, from this typecode
 unfoldable pub source : List Item → Option ℕ
 source [] = none
 source (con c ∷ b) = none

@@ -111,8 +111,8 @@ module _ (T : Tables) (goal : ℕ) (statement : List ℕ) where
   leaf m s r none = no misfit
   leaf m s r (some q) = bind (reduce (T .rules) (m .list) r 0 (s .trees)) (complete m s (q .result) (s .frames))
 
-  -- branch, at a token: its constant edge is followed and the token taken. No such edge: 2 here if the node is 0 or has no edges; else the
-  -- node becomes a frame, or 6, and the walk goes to 0
+  -- branch, at a token: its constant edge is followed and the token taken. Without one it is 2 here at node 0, or where
+  -- nothing leaves the node; elsewhere the node is kept as a frame, or 6, and the walk is at 0 again
   unfoldable pub token : Room → State → ℕ → List ℕ → Option Edge → Res Why Turn
   token m s x xs (some e) =
       follow m (s .frames) (record { node = s .node; frames = s .frames; trees = s .trees; rest = xs; at = suc (s .at); last = s .at }) e (s .trees)

@@ -1,6 +1,6 @@
 //! The scope paper in ordinary Rust: vectors, maps, allocation where it is convenient.
 //!
-//! It shares no code with the proved library and was written from the paper alone, so that an answer on which both agree was reached twice.
+//! It shares no code with the proved library, so that an answer on which both agree was reached twice.
 //! The modules are the paper's rooms, leaves first; [`words`] has the four entry points over slices of words, with the library's signatures.
 //! [`Grammar`] is what a caller keeps who parses many statements over the same tables.
 

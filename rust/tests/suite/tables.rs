@@ -84,3 +84,16 @@ fn bad_tables_are_refused() {
     let good = Grammar::with_tables(one(), Tables::from_words([0, 1], good));
     assert_eq!(good.parse(&statement(&[1, 10])), Ok(Formula::from_words([1])));
 }
+
+#[test]
+fn tables_are_good_as_long_as_the_limits_and_bad_past_them() {
+    let parse = |nodes: Vec<u32>, rows: u32| {
+        let edges: Vec<u32> = (1..=rows).flat_map(|symbol| row(0, 0, symbol, 1)).collect();
+        let grammar = Grammar::with_tables(rules(&[(2, &[c(10)])]), Tables::from_words(nodes, edges));
+        grammar.parse(&statement(&[1, 10]))
+    };
+    let nodes = |count: usize| [vec![0, 1], vec![0; count - 2]].concat();
+    assert_eq!(parse(nodes(8_192), 16_384), Ok(Formula::from_words([1])));
+    assert_eq!(parse(nodes(8_193), 16_384), Err(ParseError::BadTables));
+    assert_eq!(parse(nodes(8_192), 16_385), Err(ParseError::BadTables));
+}

@@ -237,7 +237,7 @@ yes-exactly provable logic rules tokens list work h =
       λ t. p ∙ met (m .1 t) 4 [] ∙ none-fails,
     )
 
--- ---- one-meaning: a list has at most one typecode and one spelling
+-- ---- one-meaning: two trees with one list have the same typecode and the same tokens
 
 pub one-meaning : (R : List Rule) {t t′ : ℕ} {ts ts′ l : List ℕ} → Tree R t ts l → Tree R t′ ts′ l → (t ≡ t′) × (ts ≡ ts′)
 one-meaning R p p′ = unique R p p′

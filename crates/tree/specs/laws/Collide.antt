@@ -1,4 +1,4 @@
--- A body is refused with 11 exactly if it equals, begins or continues a placed one, whatever the room.
+-- 11 comes exactly where a body and one that is placed are equal, or one of them begins the other, whatever the room.
 -- While rules are placed, each node is reached by one list of items alone. So a body that follows the tree down follows the placed bodies.
 use mathlib.Core.Path.{_≡_, refl, sym, _∙_, ap}
 use mathlib.Core.Bool.{Bool, true, false, false≢true, _&&_}

@@ -129,7 +129,7 @@ module _ (T : Tables) (provable logic a : ℕ) (m : Room) (t : ℕ) (xs : List �
       → check (T .rules) (wantedOf provable logic t) xs (walk T provable logic a m (t ∷ xs) .list) ≡ true
   walk-checked e = checked T _ xs a (walk-answers T provable logic a m t xs) e
 
-  -- what is accepted is a well typed tree of the wanted typecode that spells the statement
+  -- an accepted list is the list of a tree of the wanted typecode, and its tokens are the statement's
   pub walk-sound : walk T provable logic a m (t ∷ xs) .number ≡ 0
       → Tree (T .rules) (wantedOf provable logic t) xs (walk T provable logic a m (t ∷ xs) .list)
   walk-sound e = check-sound (T .rules) _ xs _ (walk-checked e)

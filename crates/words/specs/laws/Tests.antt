@@ -11,7 +11,7 @@ use Rattle.words.specs.Outcome.{pick, lesser, sameWords}
 -- a test's value from the fact that a branch left
 pub ruleset tests = (lt-ltb, le-ltb, le-leb, lt-leb, eq-eqb, ne-eqb)
 
--- `if !f(x)`, taken and left, in terms of the definition that f's contract names
+-- of `if !f(x)`, where f answers with what a definition says: the value that the definition has, in the branch and past it
 pub failed : {b s : Bool} → b ≡ s → not b ≡ true → s ≡ false
 failed {b} e h = sym e ∙ not-true b h
 
