@@ -9,11 +9,11 @@ static_assert(sizeof(jiehkavon_stretch) == 8, "two words");
 
 int main() {
     const uint32_t rules[] = {2, 1, 0, 10}, tokens[] = {1, 10};
-    uint32_t nodes[2], edges[JIEHKAVON_ROW_WIDTH], list[JIEHKAVON_ENOUGH_LIST(2)], work[JIEHKAVON_ENOUGH_LIST(2)];
+    uint32_t nodes[2], edges[JIEHKAVON_ROW_WIDTH], list[JIEHKAVON_LIST_A_TOKEN], work[JIEHKAVON_LIST_A_TOKEN];
     const jiehkavon_built built = jiehkavon_build(1, 2, rules, 4, nodes, 2, edges, JIEHKAVON_ROW_WIDTH);
     const jiehkavon_answer parsed = jiehkavon_parse(1, 2, rules, 4, nodes, 2, edges, JIEHKAVON_ROW_WIDTH, tokens, 2,
-                                                    JIEHKAVON_ENOUGH_PASSES(2), nullptr, 0, list,
-                                                    JIEHKAVON_ENOUGH_LIST(2), work, JIEHKAVON_ENOUGH_LIST(2));
+                                                    jiehkavon_enough_passes(2), nullptr, 0, list,
+                                                    jiehkavon_enough_list(2), work, jiehkavon_enough_list(2));
     const jiehkavon_answer verified = jiehkavon_verify(1, 2, rules, 4, tokens, 2, list, parsed.length, work, 1);
     const jiehkavon_stretch body = jiehkavon_body(1, 2, rules, 4, 1);
     const bool good = built.number == JIEHKAVON_OK && built.nodes == 2 && built.edges == 1 && parsed.number == JIEHKAVON_OK

@@ -7,7 +7,7 @@
 #include "jiehkavon.h"
 #include "sets.h"
 
-enum { LONG_LIST = JIEHKAVON_ENOUGH_LIST(JIEHKAVON_MOST_TOKENS) };
+enum { LONG_LIST = JIEHKAVON_MOST_LIST };
 
 typedef struct attempt {
     const call *asked;
@@ -198,7 +198,7 @@ static void check_random(const grounds *g) {
 static void check_long(const grounds *g) {
     const size_t rooms[][2] = {{LONG_LIST, 4095}, {4096, 4095}, {4095, 4095}, {4096, 4094}};
     for (size_t i = 0; i < LENGTH(rooms); i++) {
-        call c = call_s(PARSE, JIEHKAVON_ENOUGH_PASSES(JIEHKAVON_MOST_TOKENS));
+        call c = call_s(PARSE, JIEHKAVON_MOST_PASSES);
         c.slices[LIST] = c.slices[WORK] = garbage(rooms[i][0]);
         c.slices[FRAMES] = garbage(rooms[i][1]);
         c.slices[TOKENS] = prefixes(4095);

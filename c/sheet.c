@@ -123,14 +123,14 @@ static void check_rows(void) {
     };
     for (size_t i = 0; i < LENGTH(rows); i++) {
         const row *r = &rows[i];
-        call c = call_s(PARSE, (uint32_t)JIEHKAVON_ENOUGH_PASSES(r->length));
+        call c = call_s(PARSE, jiehkavon_enough_passes(r->length));
         expected e = {.given = r->given};
         char what[40];
         snprintf(what, sizeof what, "row %zu of the sheet", i);
         c.slices[TOKENS] = (slice){(uint32_t *)r->tokens, r->length};
-        c.slices[FRAMES] = garbage(JIEHKAVON_ENOUGH_FRAMES(r->length));
-        c.slices[LIST] = garbage(JIEHKAVON_ENOUGH_LIST(r->length));
-        c.slices[WORK] = garbage(JIEHKAVON_ENOUGH_LIST(r->length));
+        c.slices[FRAMES] = garbage(jiehkavon_enough_frames(r->length));
+        c.slices[LIST] = garbage(jiehkavon_enough_list(r->length));
+        c.slices[WORK] = garbage(jiehkavon_enough_list(r->length));
         e.front[LIST] = (slice){(uint32_t *)r->list, r->given.words[2]};
         check_call(&c, &e, what);
     }
@@ -202,8 +202,8 @@ static void check_longest(void) {
     expected e = {.given = {{JIEHKAVON_OK, 0, 4096, 12287}}};
     c.slices[TOKENS] = prefixes(4095);
     check(c.slices[TOKENS].length == JIEHKAVON_MOST_TOKENS, "the longest statement has %zu tokens", c.slices[TOKENS].length);
-    c.slices[FRAMES] = garbage(JIEHKAVON_ENOUGH_FRAMES(JIEHKAVON_MOST_TOKENS));
-    c.slices[LIST] = c.slices[WORK] = garbage(JIEHKAVON_ENOUGH_LIST(JIEHKAVON_MOST_TOKENS));
+    c.slices[FRAMES] = garbage(JIEHKAVON_MOST_FRAMES);
+    c.slices[LIST] = c.slices[WORK] = garbage(JIEHKAVON_MOST_LIST);
     for (size_t i = 0; i < LENGTH(list); i++)
         list[i] = i == 0 ? 1 : 6;
     e.front[LIST] = SLICE(list);

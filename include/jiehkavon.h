@@ -1,3 +1,4 @@
+/* SPDX-License-Identifier: MIT OR Apache-2.0 (the file NOTICE says more) */
 /* A Metamath statement parser that is proved. This is its C boundary; the code behind it is libdesk_c.a, for x86-64.
  *
  * A slice is two arguments, a pointer to 32-bit words and how many there are. An empty slice may have any pointer,
@@ -55,16 +56,34 @@ enum {
 /* Sizes. */
 enum {
     JIEHKAVON_ITEM_WIDTH = 2,      /* words of an item */
-    JIEHKAVON_ROW_WIDTH = 16       /* words of an edge: from, kind, symbol, to, count, five times rule and offset, 0 */
+    JIEHKAVON_ROW_WIDTH = 16,      /* words of an edge: from, kind, symbol, to, count, five times rule and offset, 0 */
+    JIEHKAVON_PASSES_A_TOKEN = 4,  /* passes for each token after the typecode that are always enough */
+    JIEHKAVON_LIST_A_TOKEN = 17    /* words of the list, and of its work slice, likewise */
 };
 
 /* Passes and room that are always enough for a statement of `tokens` tokens, its typecode among them: for n tokens
  * after the typecode 4n passes, n - 1 frames, and 17n words for the list and 17n for its work slice. With these a
- * parse never answers 5, 6 or 7; that is proved, for any tables. Lending more changes nothing. */
-#define JIEHKAVON_AFTER_TYPECODE(tokens) ((tokens) > 0 ? (tokens) - 1 : 0)
-#define JIEHKAVON_ENOUGH_PASSES(tokens) (4 * JIEHKAVON_AFTER_TYPECODE(tokens))
-#define JIEHKAVON_ENOUGH_FRAMES(tokens) JIEHKAVON_AFTER_TYPECODE(JIEHKAVON_AFTER_TYPECODE(tokens))
-#define JIEHKAVON_ENOUGH_LIST(tokens) (17 * JIEHKAVON_AFTER_TYPECODE(tokens))
+ * parse never answers 5, 6 or 7; that is proved, for any tables. Lending more changes nothing. A statement of no or
+ * too many tokens is refused before it is walked and needs none. */
+static inline size_t jiehkavon_walked(size_t tokens) {
+    return tokens > 0 && tokens <= JIEHKAVON_MOST_TOKENS ? tokens - 1 : 0;
+}
+static inline uint32_t jiehkavon_enough_passes(size_t tokens) {
+    return JIEHKAVON_PASSES_A_TOKEN * (uint32_t)jiehkavon_walked(tokens);
+}
+static inline size_t jiehkavon_enough_frames(size_t tokens) {
+    return jiehkavon_walked(jiehkavon_walked(tokens));
+}
+static inline size_t jiehkavon_enough_list(size_t tokens) {
+    return JIEHKAVON_LIST_A_TOKEN * jiehkavon_walked(tokens);
+}
+
+/* The same for the longest statement, as constants: so much is enough for every statement. */
+enum {
+    JIEHKAVON_MOST_PASSES = JIEHKAVON_PASSES_A_TOKEN * (JIEHKAVON_MOST_TOKENS - 1),
+    JIEHKAVON_MOST_FRAMES = JIEHKAVON_MOST_TOKENS - 2,
+    JIEHKAVON_MOST_LIST = JIEHKAVON_LIST_A_TOKEN * (JIEHKAVON_MOST_TOKENS - 1)
+};
 
 /* What a parse or a check answers. */
 typedef struct jiehkavon_answer {

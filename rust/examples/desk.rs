@@ -38,13 +38,14 @@ impl Names {
 type Titles = HashMap<RuleNo, &'static str>;
 
 /// Each rule has a title, a result and a body.
-const RULES: [(&str, &str, &str); 7] = [
+const RULES: [(&str, &str, &str); 8] = [
     ("level low", "wff", "low"),
     ("level high", "wff", "high"),
     ("pump", "pump", "standby"),
     ("tank", "thing", "main"),
     ("a pump is a thing", "thing", "<pump>"),
     ("full", "wff", "<thing> is-full"),
+    ("not", "wff", "not <wff>"),
     ("implies", "wff", "( <wff> -> <wff> )"),
 ];
 
@@ -59,17 +60,31 @@ fn grammar(names: &mut Names) -> Result<(Grammar, Titles), Box<dyn Error>> {
     Ok((Grammar::build(rules)?, titles))
 }
 
-/// An entry, and under it what fills its slots.
-fn show(part: Subtree<'_>, titles: &Titles, depth: usize) {
-    println!(
-        "{:indent$}rule {}: {}",
-        "",
-        part.rule(),
-        titles[&part.rule()],
-        indent = 4 + 2 * depth
-    );
-    for child in part.children() {
-        show(child, titles, depth + 1);
+/// How far down a tree is shown.
+const SHOWN: usize = 6;
+
+/// Each entry, and under it what fills its slots. A list may be deeper than the machine's stack, so nothing here calls itself.
+fn show(root: Subtree<'_>, titles: &Titles) {
+    let mut deeper = 0;
+    for (depth, part) in root.preorder() {
+        if depth < SHOWN {
+            let (indent, rule) = (4 + 2 * depth, part.rule());
+            println!("{:indent$}rule {rule}: {}", "", titles[&rule]);
+        } else {
+            deeper += 1;
+        }
+    }
+    if deeper > 0 {
+        println!("    and {deeper} entries further down");
+    }
+}
+
+/// The text, or its first words if there are many.
+fn shortened(text: &str) -> String {
+    let words: Vec<&str> = text.split_whitespace().collect();
+    match words.get(..12) {
+        Some(front) => format!("{} ... ({} words)", front.join(" "), words.len()),
+        None => words.join(" "),
     }
 }
 
@@ -83,18 +98,20 @@ fn main() -> Result<(), Box<dyn Error>> {
         grammar.tables().edges().count()
     );
     let mut parser = Parser::new();
+    let deep = format!("|- {}low", "not ".repeat(4_000));
     for text in [
         "|- ( low -> standby is-full )",
         "|- ( low -> high",
         "|- low low",
         "|- ( low -> flood )",
+        &deep,
     ] {
-        println!("{text}");
+        println!("{}", shortened(text));
         let statement = names.statement(text)?;
         match parser.parse(&grammar, &statement) {
             Ok(parsed) => {
-                println!("  list {:?} after {} passes", parsed.formula.words(), parsed.passes);
-                show(parsed.formula.tree(grammar.rules()).ok_or("no tree")?.root(), &titles, 0);
+                println!("  list {} after {} passes", shortened(&parsed.formula.to_string()), parsed.passes);
+                show(parsed.formula.tree(grammar.rules()).ok_or("no tree")?.root(), &titles);
             }
             Err(refusal @ (ParseError::Unparseable { place, .. } | ParseError::Unfinished { place, .. })) => {
                 println!("  {refusal}: {}", text.split_whitespace().nth(place).unwrap_or("?"));

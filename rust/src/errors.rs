@@ -3,10 +3,12 @@
 use std::error::Error;
 use std::fmt;
 
+use crate::rules::Rules;
 use crate::words::{Answer, Built};
 
 /// Why a build was refused. A refused build leaves nothing behind.
 #[derive(Clone, Copy, Debug, PartialEq, Eq, Hash)]
+#[non_exhaustive]
 pub enum BuildError {
     /// 10: a word of the rules is out of its range, a result is the provable typecode, or the provable and the logic typecode are one.
     BadRules,
@@ -70,8 +72,57 @@ impl fmt::Display for BuildError {
 
 impl Error for BuildError {}
 
+/// Rules whose tree was refused: why, and the rules themselves, so that they can be mended and tried again.
+#[derive(Clone, Debug, PartialEq, Eq)]
+pub struct RefusedRules {
+    why: BuildError,
+    rules: Rules,
+}
+
+impl RefusedRules {
+    pub(crate) fn new(why: BuildError, rules: Rules) -> RefusedRules {
+        RefusedRules { why, rules }
+    }
+
+    /// Why there is no tree.
+    pub fn why(&self) -> BuildError {
+        self.why
+    }
+
+    /// The paper's number.
+    pub fn number(&self) -> u32 {
+        self.why.number()
+    }
+
+    /// The rules, as they were handed over.
+    pub fn rules(&self) -> &Rules {
+        &self.rules
+    }
+
+    /// The rules back.
+    pub fn into_rules(self) -> Rules {
+        self.rules
+    }
+}
+
+impl fmt::Display for RefusedRules {
+    fn fmt(&self, f: &mut fmt::Formatter<'_>) -> fmt::Result {
+        self.why.fmt(f)
+    }
+}
+
+impl Error for RefusedRules {}
+
+/// The reason alone, for who has no use for the rules.
+impl From<RefusedRules> for BuildError {
+    fn from(refused: RefusedRules) -> BuildError {
+        refused.why
+    }
+}
+
 /// Why a statement was not parsed. Places count the statement's typecode as 0.
 #[derive(Clone, Copy, Debug, PartialEq, Eq, Hash)]
+#[non_exhaustive]
 pub enum ParseError {
     /// 1: the statement has fewer than two tokens.
     TooShort,
@@ -207,6 +258,7 @@ impl Error for ParseError {}
 
 /// Why the check alone said no.
 #[derive(Clone, Copy, Debug, PartialEq, Eq, Hash)]
+#[non_exhaustive]
 pub enum VerifyError {
     /// 1: the statement has fewer than two tokens.
     TooShort,

@@ -1,9 +1,10 @@
 //! Formulas: the list of rules in postfix order, and the tree that it stands for.
 
+use std::fmt;
 use std::ops::Range;
 use std::slice;
 
-use crate::numbers::{Item, RuleNo, Symbol};
+use crate::numbers::{write_words, Item, RuleNo, Symbol};
 use crate::rules::Rules;
 
 /// The numbers of a formula's rules in postfix order, children left to right.
@@ -61,6 +62,13 @@ impl Formula {
         }
         tree.root = roots.pop()?;
         roots.is_empty().then_some(tree)
+    }
+}
+
+/// The rule numbers in decimal, in the list's order: `1 2 7`.
+impl fmt::Display for Formula {
+    fn fmt(&self, f: &mut fmt::Formatter<'_>) -> fmt::Result {
+        write_words(f, &self.words)
     }
 }
 
@@ -154,9 +162,15 @@ impl<'t> Subtree<'t> {
     }
 
     /// What fills the rule's slots, from left to right.
-    pub fn children(&self) -> impl Iterator<Item = Subtree<'t>> {
+    pub fn children(&self) -> impl DoubleEndedIterator<Item = Subtree<'t>> {
         let tree = self.tree;
         tree.parts(self.place).1.map(move |&place| Subtree { tree, place })
+    }
+
+    /// This part and all below it, each before its children, with its depth: 0 here, one more for each step down. A list may be deeper than
+    /// the machine's stack, so a tree is better gone through with this than by a function that calls itself.
+    pub fn preorder(&self) -> Preorder<'t> {
+        Preorder { ahead: vec![(0, *self)] }
     }
 
     /// The tokens that it spells. Those of the root are the statement after its typecode.
@@ -175,5 +189,22 @@ impl<'t> Subtree<'t> {
             }
         }
         tokens
+    }
+}
+
+/// The parts of a tree from the top, see [`Subtree::preorder`].
+#[derive(Clone, Debug)]
+pub struct Preorder<'t> {
+    // what is still to come, the next one last
+    ahead: Vec<(usize, Subtree<'t>)>,
+}
+
+impl<'t> Iterator for Preorder<'t> {
+    type Item = (usize, Subtree<'t>);
+
+    fn next(&mut self) -> Option<(usize, Subtree<'t>)> {
+        let (depth, part) = self.ahead.pop()?;
+        self.ahead.extend(part.children().rev().map(|child| (depth + 1, child)));
+        Some((depth, part))
     }
 }

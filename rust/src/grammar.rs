@@ -2,7 +2,7 @@
 
 use std::collections::HashSet;
 
-use crate::errors::{BuildError, ParseError, VerifyError};
+use crate::errors::{BuildError, ParseError, RefusedRules, VerifyError};
 use crate::formula::Formula;
 use crate::limits::{MOST_EDGES, MOST_NODES, ROW_WIDTH};
 use crate::numbers::Item;
@@ -20,17 +20,17 @@ pub struct Grammar {
 }
 
 impl Grammar {
-    /// The tree of the rules, or why there is none.
+    /// The tree of the rules, or why there is none, with the rules back.
     ///
     /// The room lent to the build is a bound on what it can need, or the paper's limit if that is less. So [`BuildError::NodesFull`] and
     /// [`BuildError::EdgesFull`] mean that the tree passes a limit, never that this crate lent too little.
-    pub fn build(rules: Rules) -> Result<Grammar, BuildError> {
+    pub fn build(rules: Rules) -> Result<Grammar, RefusedRules> {
         let room = BuildRoom::of(&rules);
         let mut nodes = vec![0; room.nodes];
         let mut edges = vec![0; room.edges * ROW_WIDTH];
         let built = words::build(rules.provable().word(), rules.logic().word(), rules.words(), &mut nodes, &mut edges);
-        if let Some(refusal) = BuildError::of(built) {
-            return Err(refusal);
+        if let Some(why) = BuildError::of(built) {
+            return Err(RefusedRules::new(why, rules));
         }
         // the counts are at most the room, so that they fit and only zeros are cut off
         shorten(&mut nodes, built.nodes, 1);

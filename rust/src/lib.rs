@@ -33,6 +33,7 @@
 //! assert_eq!(tree.root().rule(), and_rule);
 //! assert!(tree.root().children().map(|child| child.rule()).eq([low_rule, dry_rule]));
 //! assert_eq!(tree.root().tokens(), [open, low, and, dry, close]);
+//! assert_eq!(formula.to_string(), "1 2 3");
 //!
 //! // a refusal has the paper's number and says where
 //! let unfinished: Statement = [provable, open, low].into_iter().collect();
@@ -60,8 +61,8 @@ mod tables;
 #[allow(unsafe_code)]
 pub mod words;
 
-pub use errors::{BuildError, ParseError, VerifyError};
-pub use formula::{Formula, Subtree, Tree};
+pub use errors::{BuildError, ParseError, RefusedRules, VerifyError};
+pub use formula::{Formula, Preorder, Subtree, Tree};
 pub use grammar::Grammar;
 pub use numbers::{Item, NodeNo, NotASymbol, RuleNo, Symbol};
 pub use parser::{Parsed, Parser, Room};

@@ -99,3 +99,11 @@ impl Item {
         }
     }
 }
+
+/// Words with one space between them, as statements and lists are printed.
+pub(crate) fn write_words(f: &mut fmt::Formatter<'_>, words: &[u32]) -> fmt::Result {
+    words.iter().enumerate().try_for_each(|(at, word)| {
+        let space = if at == 0 { "" } else { " " };
+        write!(f, "{space}{word}")
+    })
+}

@@ -1,6 +1,8 @@
 //! Statements: a typecode and tokens.
 
-use crate::numbers::Symbol;
+use std::fmt;
+
+use crate::numbers::{write_words, Symbol};
 
 /// A statement: its typecode, then its tokens.
 ///
@@ -41,6 +43,13 @@ impl Statement {
     /// The words, the typecode among them.
     pub fn words(&self) -> &[u32] {
         &self.words
+    }
+}
+
+/// The words in decimal, the typecode first: `1 5 10 7 11 6`.
+impl fmt::Display for Statement {
+    fn fmt(&self, f: &mut fmt::Formatter<'_>) -> fmt::Result {
+        write_words(f, &self.words)
     }
 }
 

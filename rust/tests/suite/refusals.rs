@@ -6,7 +6,17 @@ use jiehkavon::{BuildError, Formula, Grammar, ParseError, Rules, Tables, VerifyE
 use crate::sets::{c, chain, grammar, prefixes, rules, s, set_s, statement, symbol, TEN_PASSES};
 
 fn refused(rules: Rules) -> BuildError {
-    Grammar::build(rules).expect_err("a refusal")
+    Grammar::build(rules).expect_err("a refusal").why()
+}
+
+#[test]
+fn a_refused_build_gives_the_rules_back() {
+    let refused = Grammar::build(chain(6)).expect_err("a refusal");
+    assert_eq!((refused.why(), refused.number()), (BuildError::SixthReduce, 14));
+    assert_eq!(refused.to_string(), BuildError::SixthReduce.to_string());
+    assert_eq!(refused.rules(), &chain(6));
+    assert_eq!(BuildError::from(refused.clone()), BuildError::SixthReduce);
+    assert_eq!(refused.into_rules(), chain(6));
 }
 
 #[test]

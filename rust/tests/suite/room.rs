@@ -144,7 +144,8 @@ fn a_build_gets_all_that_it_needs() {
     for turn in 0..300 {
         let rules = random_rules(&mut random);
         let expected = build_at_the_limits(&rules, &mut nodes, &mut edges);
-        let built = Grammar::build(rules.clone()).map(|grammar| grammar.tables().clone());
+        let built = Grammar::build(rules.clone()).map_err(BuildError::from);
+        let built = built.map(|grammar| grammar.tables().clone());
         // edges beyond those of the rules are the work of conversions
         grown += usize::from(
             built

@@ -163,5 +163,5 @@ fn set_t_is_walked_past_its_tree() {
 fn five_conversions_in_a_chain_and_no_more() {
     // the slot's own edge and five converted ones, from the node after c31; node 0 has c30 and c31
     assert_eq!(grammar(chain(5)).tables().edges().count(), 8);
-    assert_eq!(Grammar::build(chain(6)), Err(BuildError::SixthReduce));
+    assert_eq!(Grammar::build(chain(6)).map_err(BuildError::from), Err(BuildError::SixthReduce));
 }

@@ -51,6 +51,41 @@ fn parsed_formulas_spell_their_statements() {
 }
 
 #[test]
+fn parts_from_the_top_with_their_depth() {
+    let rules = set_s();
+    let tree = Formula::from_words([4, 5, 3, 8, 1, 7]).tree(&rules).expect("a tree");
+    let parts: Vec<(usize, u32)> = tree.root().preorder().map(|(depth, part)| (depth, part.rule().0)).collect();
+    assert_eq!(parts, [(0, 7), (1, 8), (2, 5), (3, 4), (2, 3), (1, 1)]);
+    let below: Vec<usize> = tree.subtrees().map(|part| part.preorder().count()).collect();
+    assert_eq!(below, [1, 2, 1, 4, 1, 6]);
+}
+
+#[test]
+fn a_tree_deeper_than_the_stack() {
+    const DEPTH: usize = 1_000_000;
+    let run = || {
+        let rules = set_s();
+        let tree = Formula::from_words([vec![1], vec![6; DEPTH]].concat())
+            .tree(&rules)
+            .expect("a tree");
+        assert_eq!(tree.root().preorder().map(|(depth, _)| depth).max(), Some(DEPTH));
+        assert_eq!(tree.root().tokens().len(), DEPTH + 1);
+    };
+    // a call for each level would need megabytes
+    let small = std::thread::Builder::new().stack_size(256 << 10).spawn(run).expect("a thread");
+    small.join().expect("no overflow");
+}
+
+#[test]
+fn statements_and_lists_as_text() {
+    assert_eq!(statement(&TEN_PASSES).to_string(), "1 5 10 7 11 6");
+    assert_eq!(statement(&[0, u32::MAX]).to_string(), "0 4294967295");
+    assert_eq!(statement(&[]).to_string(), "");
+    assert_eq!(Formula::from_words([1, 2, 7]).to_string(), "1 2 7");
+    assert_eq!(Formula::from_words([]).to_string(), "");
+}
+
+#[test]
 fn lists_that_are_no_tree() {
     let rules = set_s();
     let wrong: [&[u32]; 6] = [&[], &[0], &[10], &[1, 7], &[1, 2], &[1, 6, 2]];
