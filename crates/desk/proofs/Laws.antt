@@ -19,7 +19,7 @@ use Rattle.walk.specs.Walk.{Walked, wantedOf, walk}
 use Rattle.walk.specs.Walk as passes
 use Rattle.walk.specs.Code.{Answers}
 use Rattle.walk.specs.declared.Walked as walked
-use Rattle.words.specs.Numbers.{Fault, faultNumber}
+use Rattle.words.specs.Numbers.{accepted, badRules, misfit, number, Fault, faultNumber}
 use Rattle.tree.specs.Grow.{Grown, Room, grow}
 use Rattle.tree.specs.Code.{roomOf, faultOf, Holding, Grows}
 use Rattle.tree.specs.declared.Fault as why
@@ -43,10 +43,10 @@ module _ (provable logic : ℕ) (rules tokens list : List ℕ) (work : ℕ) wher
   -- the check decides, by what the code's check says of the tokens after the first
   pub decided : (goal : ℕ) (b : Bool) → Asks provable logic rules tokens list work → goal ≡ wantedOf provable logic (getD tokens 0 0)
       → b ≡ check (theRules rules) goal (take (length tokens - 1) (drop 1 tokens)) list
-      → firstFault (verifyDemands provable logic rules tokens list work) ≡ firstFault (demand b 4 ∷ [])
+      → firstFault (verifyDemands provable logic rules tokens list work) ≡ firstFault (demand b (number misfit) ∷ [])
   unfolding verifyGives
   decided goal b h g e = past provable logic rules tokens list work h
-      ∙ ap (λ (x : Bool). firstFault (demand x 4 ∷ [])) (sym (e ∙ rw (part-all tokens 1, g)))
+      ∙ ap (λ (x : Bool). firstFault (demand x (number misfit) ∷ [])) (sym (e ∙ rw (part-all tokens 1, g)))
 
 -- ---- a build
 
@@ -88,7 +88,7 @@ room-fits z nodes edges h =
 
 pub raised-ok : (b : Built) (z : lent.Room) (x : Res Fault Grown) (c : Counts) (ns es : List ℕ) (nodes edges : ℕ) → b ≡ builtBy nodes edges x
     → length ns ≡ nodes → length es ≡ edges → z .nodes ≤ nodes → rowWidth * z .edges ≤ edges → Holding z x c ns es
-    → Raised b (record { number = 0; nodes = c .nodes; edges = c .edges }) ns es
+    → Raised b (record { number = accepted; nodes = c .nodes; edges = c .edges }) ns es
 unfolding builtBy
 raised-ok b z x c ns es nodes edges h d e p q s = rw (h, s .grows) (record {
   number = refl;
@@ -101,13 +101,13 @@ raised-ok b z x c ns es nodes edges h d e p q s = rw (h, s .grows) (record {
 })
 
 module _ (provable logic : ℕ) (rules : List ℕ) (nodes edges : ℕ) where
-  pub build-10 : rulesGood provable logic rules ≡ false → buildGives provable logic rules nodes edges ≡ notBuilt 10 nodes edges
+  pub build-bad : rulesGood provable logic rules ≡ false → buildGives provable logic rules nodes edges ≡ notBuilt badRules nodes edges
   unfolding buildGives buildAfter
-  build-10 h = ap (buildAfter rules nodes edges) (unmet h 10 [])
+  build-bad h = ap (buildAfter rules nodes edges) (unmet h badRules [])
 
   build-grown : rulesGood provable logic rules ≡ true → buildGives provable logic rules nodes edges ≡ builtBy nodes edges (grow (buildRoom nodes edges) (theRules rules))
   unfolding buildGives buildAfter
-  build-grown h = ap (buildAfter rules nodes edges) (met h 10 [] ∙ none-fails)
+  build-grown h = ap (buildAfter rules nodes edges) (met h badRules [] ∙ none-fails)
 
   -- what the growing left in the slices, by what it answered
   module _ (h : rulesGood provable logic rules ≡ true) (z : lent.Room) (e : roomOf z ≡ buildRoom nodes edges) (r : Grew) (ns es : List ℕ)
@@ -115,7 +115,7 @@ module _ (provable logic : ℕ) (rules : List ℕ) (nodes edges : ℕ) where
     grown : buildGives provable logic rules nodes edges ≡ builtBy nodes edges (grow (roomOf z) (theRules rules))
     grown = build-grown h ∙ ap (λ (x : Room). builtBy nodes edges (grow x (theRules rules))) (sym e)
 
-    pub raised-on : (c : Counts) → r ≡ On c → Raised (buildGives provable logic rules nodes edges) (record { number = 0; nodes = c .nodes; edges = c .edges }) ns es
+    pub raised-on : (c : Counts) → r ≡ On c → Raised (buildGives provable logic rules nodes edges) (record { number = accepted; nodes = c .nodes; edges = c .edges }) ns es
     raised-on c a =
         let s = subst (λ x. Grows z (grow (roomOf z) (theRules rules)) x ns es) a m in
         let k = room-fits z nodes edges e in

@@ -6,7 +6,7 @@ use lib.Dec.{eqb, leb, ltb}
 use lib.ListN.{length, getD, drop}
 use Rattle.words.specs.Limits.{mostRules, mostNodes, mostEdges, rowWidth, mostTokens}
 use Rattle.words.specs.Lent.{zeros, padded}
-use Rattle.words.specs.Numbers.{Fault, faultNumber, numbering}
+use Rattle.words.specs.Numbers.{accepted, tooFewTokens, badTables, tooManyTokens, badRules, misfit, noEntry, number, Fault, faultNumber, numbering}
 use Rattle.words.specs.Outcome.{Res, ok, no, pick, lesser, Demand, demand, firstFault}
 use Rattle.rules.specs.Rules.{Rule, theRules, rulesGood, Stretch, noStretch, stretchFrom, reading}
 use Rattle.rows.specs.Rows.{edgesOf, edgeWords, tablesGood, tabling}
@@ -42,7 +42,7 @@ buildRoom nodes edges = record { nodes = lesser nodes mostNodes; edges = lesser 
 unfoldable pub builtBy : ℕ → ℕ → Res Fault Grown → Built
 builtBy nodes edges (no y) = notBuilt (faultNumber y) nodes edges
 builtBy nodes edges (ok g) = record {
-  number = 0;
+  number = accepted;
   nodes = length (g .nodes);
   edges = length (g .edges);
   node-words = padded (g .nodes) nodes;
@@ -55,7 +55,7 @@ buildAfter rules nodes edges (suc k) = notBuilt (suc k) nodes edges
 
 -- `nodes` and `edges` are the lengths of the slices lent
 unfoldable pub buildGives : ℕ → ℕ → List ℕ → ℕ → ℕ → Built
-buildGives provable logic rules nodes edges = buildAfter rules nodes edges (firstFault (demand (rulesGood provable logic rules) 10 ∷ []))
+buildGives provable logic rules nodes edges = buildAfter rules nodes edges (firstFault (demand (rulesGood provable logic rules) badRules ∷ []))
 
 -- ---- `parse`
 
@@ -102,12 +102,12 @@ pub record Asked : Type 0 where
   pub edges : List ℕ
   pub tokens : List ℕ
 
--- 10, 8, 1, 9, then the walk
+-- in this order, then the walk
 abbrev pub parseDemands : Asked → List Demand
-parseDemands q = demand (rulesGood (q .provable) (q .logic) (q .rules)) 10
-    ∷ demand (tablesGood (length (theRules (q .rules))) (q .nodes) (q .edges)) 8
-    ∷ demand (not (ltb (length (q .tokens)) 2)) 1
-    ∷ demand (not (ltb mostTokens (length (q .tokens)))) 9
+parseDemands q = demand (rulesGood (q .provable) (q .logic) (q .rules)) badRules
+    ∷ demand (tablesGood (length (theRules (q .rules))) (q .nodes) (q .edges)) badTables
+    ∷ demand (not (ltb (length (q .tokens)) 2)) tooFewTokens
+    ∷ demand (not (ltb mostTokens (length (q .tokens)))) tooManyTokens
     ∷ []
 
 unfoldable pub walkAfter : Asked → ℕ → passes.Room → ℕ → Walked
@@ -123,13 +123,13 @@ parseGives q allowance s = parsed s (walkOf q allowance (walkRoom s))
 
 -- ---- `verify`, the check alone
 
--- 10, 1, 9, 7 where the work slice is shorter than the list, then 4 or 0
+-- no room where the work slice is shorter than the list; the check decides last
 abbrev pub verifyDemands : ℕ → ℕ → List ℕ → List ℕ → List ℕ → ℕ → List Demand
-verifyDemands provable logic rules tokens list work = demand (rulesGood provable logic rules) 10
-    ∷ demand (not (ltb (length tokens) 2)) 1
-    ∷ demand (not (ltb mostTokens (length tokens))) 9
-    ∷ demand (not (ltb work (length list))) 7
-    ∷ demand (check (theRules rules) (wantedOf provable logic (getD tokens 0 0)) (drop 1 tokens) list) 4
+verifyDemands provable logic rules tokens list work = demand (rulesGood provable logic rules) badRules
+    ∷ demand (not (ltb (length tokens) 2)) tooFewTokens
+    ∷ demand (not (ltb mostTokens (length tokens))) tooManyTokens
+    ∷ demand (not (ltb work (length list))) (number noEntry)
+    ∷ demand (check (theRules rules) (wantedOf provable logic (getD tokens 0 0)) (drop 1 tokens) list) (number misfit)
     ∷ []
 
 pub record Verified : Type 0 where

@@ -60,11 +60,11 @@ fn fault_number(f: tree::Fault) -> u32
     ensures { λ r. ⌜ r ≡ faultNumber (faultOf f) ⌝ }
 {
     match f {
-        tree::Fault::Collides => 11,
-        tree::Fault::NoNode => 12,
-        tree::Fault::NoEdge => 13,
-        tree::Fault::SixthReduce => 14,
-        tree::Fault::BadCopy => 16,
+        tree::Fault::Collides => words::COLLIDES,
+        tree::Fault::NoNode => words::NO_NODE,
+        tree::Fault::NoEdge => words::NO_EDGE,
+        tree::Fault::SixthReduce => words::SIXTH_REDUCE,
+        tree::Fault::BadCopy => words::BAD_COPY,
     }
 }
 
@@ -75,7 +75,7 @@ fn raise(codes: rules::Codes, rules: &[u32], nodes: &mut [u32], edges: &mut [u32
 {
     if !rules::rules_good(rules, codes) {
         return Made {
-            number: 10,
+            number: words::BAD_RULES,
             nodes: 0,
             edges: 0,
         };
@@ -83,7 +83,7 @@ fn raise(codes: rules::Codes, rules: &[u32], nodes: &mut [u32], edges: &mut [u32
     let room = build_room(nodes.len(), edges.len());
     match tree::grow(rules, room, nodes, edges) {
         tree::Grew::On(c) => Made {
-            number: 0,
+            number: words::ACCEPTED,
             nodes: c.nodes as u32,
             edges: c.edges as u32,
         },
@@ -116,22 +116,22 @@ fn judge(codes: rules::Codes, rules: &[u32], tokens: &[u32], list: &[u32], work:
         (length (now (work .entry)))) ⌝ }
 {
     if !rules::rules_good(rules, codes) {
-        return 10;
+        return words::BAD_RULES;
     }
     if tokens.len() < 2 {
-        return 1;
+        return words::TOO_FEW_TOKENS;
     }
     if words::MOST_TOKENS < tokens.len() {
-        return 9;
+        return words::TOO_MANY_TOKENS;
     }
     if work.len() < list.len() {
-        return 7;
+        return words::NO_ENTRY;
     }
-    let goal = walk::goal_of(codes, tokens[0]);
+    let goal = walk::goal_of(codes, words::SymbolNo(tokens[0]));
     if !formula::check(rules, goal, &tokens[1..], list, work) {
-        return 4;
+        return words::MISFIT;
     }
-    0
+    words::ACCEPTED
 }
 
 // The check alone: whether the list is a well typed tree of the stated typecode that spells the statement.
@@ -157,23 +157,23 @@ pub fn verify(
 
 // ---- parse
 
-// The number of the refusal before the walk, or 0.
+// The number of the refusal before the walk, or that of no refusal.
 fn fault(codes: rules::Codes, rules: &[u32], nodes: &[u32], edges: &[u32], tokens: &[u32]) -> u32
     ensures { λ r. ⌜ r ≡ firstFault (parseDemands (asked codes (now (rules .entry)) (now (nodes .entry)) (now (edges .entry)) (now (tokens .entry)))) ⌝ }
 {
     if !rules::rules_good(rules, codes) {
-        return 10;
+        return words::BAD_RULES;
     }
     if !rows::tables_good(rules::count(rules), nodes, edges) {
-        return 8;
+        return words::BAD_TABLES;
     }
     if tokens.len() < 2 {
-        return 1;
+        return words::TOO_FEW_TOKENS;
     }
     if words::MOST_TOKENS < tokens.len() {
-        return 9;
+        return words::TOO_MANY_TOKENS;
     }
-    0
+    words::ACCEPTED
 }
 
 // The answer, and the list at the front of its slice: what else stands in the slices is not said.
@@ -192,7 +192,7 @@ fn attempt(
         (walkRoom (lent (now (frames .entry)) (now (list .entry)) (now (work .entry))))) r (now (list .exit)) ⌝ }
 {
     let number = fault(codes, rules, nodes, edges, tokens);
-    if number != 0 {
+    if number != words::ACCEPTED {
         return Answer {
             number,
             place: 0,
@@ -200,17 +200,8 @@ fn attempt(
             passes: 0,
         };
     }
-    let w = walk::walk(
-        rules,
-        codes,
-        nodes,
-        edges,
-        tokens,
-        allowance,
-        frames,
-        list,
-        work,
-    );
+    let terms = walk::Terms { codes, allowance };
+    let w = walk::walk(rules, nodes, edges, tokens, terms, frames, list, work);
     Answer {
         number: w.number,
         place: w.place,

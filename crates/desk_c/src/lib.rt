@@ -6,6 +6,15 @@ ghost use Rattle.rules.specs.Code.{stretchOf};
 ghost use Rattle.desk.specs.Entry.{bodyGives, buildGives, parseGives, verifyGives};
 ghost use Rattle.desk.specs.Code.{builtIs, parsedIs, verifiedIs, lent};
 
+fn codes_of(provable: u32, logic: u32) -> rules::Codes
+    ensures { λ r. ⌜ r ≡ record { provable = record { 0 = provable }; logic = record { 0 = logic } } ⌝ }
+{
+    rules::Codes {
+        provable: words::SymbolNo(provable),
+        logic: words::SymbolNo(logic),
+    }
+}
+
 // Where rule `rule`'s body stands in the rules; 0, 0 where there is none.
 #[no_mangle]
 pub extern "C" fn jiehkavon_body(
@@ -16,10 +25,7 @@ pub extern "C" fn jiehkavon_body(
 ) -> rules::Stretch
     ensures { λ r. ⌜ stretchOf r ≡ bodyGives provable logic (now (rules .entry)) rule ⌝ }
 {
-    let codes = rules::Codes {
-        provable: words::SymbolNo(provable),
-        logic: words::SymbolNo(logic),
-    };
+    let codes = codes_of(provable, logic);
     desk::body_stretch(codes, rules, words::RuleNo(rule))
 }
 
@@ -35,10 +41,7 @@ pub extern "C" fn jiehkavon_build(
     ensures { λ r. ⌜ builtIs r (now (nodes .exit)) (now (edges .exit))
         ≡ buildGives provable logic (now (rules .entry)) (length (now (nodes .entry))) (length (now (edges .entry))) ⌝ }
 {
-    let codes = rules::Codes {
-        provable: words::SymbolNo(provable),
-        logic: words::SymbolNo(logic),
-    };
+    let codes = codes_of(provable, logic);
     desk::build(codes, rules, nodes, edges)
 }
 
@@ -55,10 +58,7 @@ pub extern "C" fn jiehkavon_verify(
     ensures { λ r. ⌜ verifiedIs r (now (work .exit))
         ≡ verifyGives provable logic (now (rules .entry)) (now (tokens .entry)) (now (list .entry)) (length (now (work .entry))) ⌝ }
 {
-    let codes = rules::Codes {
-        provable: words::SymbolNo(provable),
-        logic: words::SymbolNo(logic),
-    };
+    let codes = codes_of(provable, logic);
     desk::verify(codes, rules, tokens, list, work)
 }
 
@@ -87,10 +87,7 @@ pub extern "C" fn jiehkavon_parse(
         }) allowance
         (lent (now (frames .entry)) (now (list .entry)) (now (work .entry))) ⌝ }
 {
-    let codes = rules::Codes {
-        provable: words::SymbolNo(provable),
-        logic: words::SymbolNo(logic),
-    };
+    let codes = codes_of(provable, logic);
     desk::parse(
         codes,
         rules,

@@ -16,6 +16,7 @@ use Rattle.words.specs.laws.Parts.{part-all}
 use Rattle.words.specs.laws.Tests.{passed}
 use Rattle.rules.specs.laws.Words.{Ahead, ahead-start, ahead-here, ahead-end}
 use Rattle.words.specs.declared.SymbolNo.{SymbolNo}
+use Rattle.words.specs.declared.NodeNo.{NodeNo}
 use Rattle.rules.specs.Code.{someRules, sourceOf}
 use Rattle.rules.specs.declared.Conversion.{Conversion}
 use Rattle.rules.specs.declared.Conversion.the-variants.{From, No}
@@ -26,7 +27,9 @@ use Rattle.rows.specs.declared.Found.{Found}
 use Rattle.rows.specs.declared.Found.the-variants.{Row}
 use Rattle.rows.specs.declared.Found.the-variants as found
 use Rattle.walk.specs.Walk.{tablesOf, present, comesFrom, wanted, conversion}
-use Rattle.walk.specs.Code.{stack, Wants, Converts, Chooses}
+use Rattle.walk.specs.Code.{stack, wishOf, Bare, Framed, Wants, Converts, Chooses}
+use Rattle.walk.specs.declared.Wish.{Wish}
+use Rattle.walk.specs.declared.Wish.the-variants.{Goal, Frame}
 use Rattle.walk.specs.declared.Chosen.the-variants.{By, Nothing}
 
 -- ---- a stack in a buffer
@@ -54,23 +57,60 @@ pub stack-push : (n : ℕ) (ws : List ℕ) (x : ℕ) → n < length ws → stack
 unfolding stack
 stack-push n ws x h = rw (add-one, getD-set-same ws n x 0 h, stack-under n n ws x (omega arith))
 
+-- ---- what is wished
+
+goal-is : (g : SymbolNo) (goal : ℕ) → Goal g ≡ Goal (record { 0 = goal }) → g .0 ≡ goal
+goal-is g goal e = let w : g ≡ record { 0 = goal } = cc in ap (λ (x : SymbolNo). x .0) w
+
+top-is : (f : NodeNo) (x : ℕ) → Frame f ≡ Frame (record { 0 = x }) → f .0 ≡ x
+top-is f x e = let w : f ≡ record { 0 = x } = cc in ap (λ (x : NodeNo). x .0) w
+
+apart : (g : SymbolNo) (f : NodeNo) → Goal g ≡ Frame f → ⊥
+apart g f e = let z : _≡_ {A = ℕ} 0 1 = cc in omega arith
+
+-- the top frame, and what is under it
+pub stack-top : (n : ℕ) (ws : List ℕ) (goal : ℕ) (f : NodeNo) → Frame f ≡ wishOf goal (stack n ws) → stack n ws ≡ f .0 ∷ stack (n - 1) ws
+unfolding stack
+stack-top zero ws goal f e = absurd (apart _ f (sym e))
+stack-top (suc n) ws goal f e = let d : suc n - 1 ≡ n = omega arith in rw (d, top-is f (getD ws n 0) e)
+
+pub bare-none : (w : Wish) (goal : ℕ) (fs : List ℕ) → Bare w → w ≡ wishOf goal fs → fs ≡ []
+bare-none (Goal g) goal [] b e = refl
+bare-none (Goal g) goal (f ∷ fs) b e = absurd (apart g _ e)
+bare-none (Frame f) goal fs b e = absurd b
+
+pub framed : (n : ℕ) (ws : List ℕ) (goal : ℕ) → Framed (wishOf goal (stack n ws)) n
+unfolding stack
+framed zero ws goal = tt
+framed (suc n) ws goal = omega arith
+
+pub wish-none : (goal : SymbolNo) (n : ℕ) (ws : List ℕ) → n ≡ 0 → Goal goal ≡ wishOf (goal .0) (stack n ws)
+unfolding stack
+wish-none goal n ws e = rw e
+
+pub wish-top : (goal n : ℕ) (ws : List ℕ) → (n ≡ 0 → ⊥) → Frame (record { 0 = getD ws (n - 1) 0 }) ≡ wishOf goal (stack n ws)
+wish-top goal n ws h = rw (stack-pop n ws h)
+
 -- ---- what is wanted
 
-module _ (es : List ℕ) (goal : ℕ) (fs : List ℕ) (n t : ℕ) where
+module _ (es : List ℕ) (w : Wish) (t : ℕ) where
   -- without frames
-  pub wants-goal : n ≡ 0 → Wants es goal (stack n fs) t (eqb t goal)
+  pub wants-goal : (g : SymbolNo) → w ≡ Goal g → Wants es w t (eqb t (g .0))
   unfolding wanted
-  wants-goal e R ns st = rw (stack-none n fs e)
+  wants-goal g e R ns st goal [] h = ap (eqb t) (goal-is g goal (sym e ∙ h))
+  wants-goal g e R ns st goal (f ∷ fs) h = absurd (apart g _ (sym e ∙ h))
 
   -- by the top frame, with an edge for it and without
-  module _ (z : n ≡ 0 → ⊥) {r : Found} (l : r ≡ looksUp es (getD fs (n - 1) 0) 1 t) where
-    pub wants-row : (i : ℕ) → r ≡ Row i → Wants es goal (stack n fs) t true
+  module _ (f : NodeNo) (e : w ≡ Frame f) {r : Found} (l : r ≡ looksUp es (f .0) 1 t) where
+    pub wants-row : (i : ℕ) → r ≡ Row i → Wants es w t true
     unfolding wanted tablesOf present
-    wants-row i e R ns st = rw (stack-pop n fs z, row-found es (getD fs (n - 1) 0) 1 t l i e .finds)
+    wants-row i d R ns st goal [] h = absurd (apart _ f (sym h ∙ e))
+    wants-row i d R ns st goal (x ∷ fs) h = rw (← top-is f x (sym e ∙ h), row-found es (f .0) 1 t l i d .finds)
 
-    pub wants-nothing : r ≡ found.Nothing → Wants es goal (stack n fs) t false
+    pub wants-nothing : r ≡ found.Nothing → Wants es w t false
     unfolding wanted tablesOf present
-    wants-nothing e R ns st = rw (stack-pop n fs z, none-found es (getD fs (n - 1) 0) 1 t l e)
+    wants-nothing d R ns st goal [] h = absurd (apart _ f (sym h ∙ e))
+    wants-nothing d R ns st goal (x ∷ fs) h = rw (← top-is f x (sym e ∙ h), none-found es (f .0) 1 t l d)
 
 -- ---- the first conversion
 
@@ -83,52 +123,55 @@ miss true x y e = absurd (false≢true (sym e))
 miss false x y e = refl
 
 -- a rule that is no conversion, one from elsewhere, and one from t
-module _ (es : List ℕ) (goal : ℕ) (fs : List ℕ) (q : Rule) (t : ℕ) {r : Conversion} (l : sourceOf r ≡ source (q .body)) where
-  pub converts-none : r ≡ No → Converts es goal fs q t false
+module _ (es : List ℕ) (w : Wish) (q : Rule) (t : ℕ) {r : Conversion} (l : sourceOf r ≡ source (q .body)) where
+  pub converts-none : r ≡ No → Converts es w q t false
   unfolding comesFrom
-  converts-none e R ns st = let s : none ≡ source (q .body) = rw e at l in rw (← s)
+  converts-none e R ns st goal fs h = let s : none ≡ source (q .body) = rw e at l in rw (← s)
 
-  pub converts-other : (u : SymbolNo) → r ≡ From u → (u .0 ≡ t → ⊥) → Converts es goal fs q t false
+  pub converts-other : (u : SymbolNo) → r ≡ From u → (u .0 ≡ t → ⊥) → Converts es w q t false
   unfolding comesFrom
-  converts-other u e h R ns st = let s : some (u .0) ≡ source (q .body) = rw e at l in rw (← s, ne-eqb (u .0) t h)
+  converts-other u e d R ns st goal fs h = let s : some (u .0) ≡ source (q .body) = rw e at l in rw (← s, ne-eqb (u .0) t d)
 
-  pub converts-from : (u : SymbolNo) → r ≡ From u → u .0 ≡ t → {b : Bool} (w : ℕ) → w ≡ q .result → Wants es goal fs w b → Converts es goal fs q t b
+  pub converts-from : (u : SymbolNo) → r ≡ From u → u .0 ≡ t → {b : Bool} (x : ℕ) → x ≡ q .result → Wants es w x b → Converts es w q t b
   unfolding comesFrom
-  converts-from u e h w d g R ns st = let s : some (u .0) ≡ source (q .body) = rw e at l in rw (← s, eq-eqb (u .0) t h, ← d) (g R ns st)
+  converts-from u e d x k g R ns st goal fs h =
+      let s : some (u .0) ≡ source (q .body) = rw e at l in
+      rw (← s, eq-eqb (u .0) t d, ← k) (g R ns st goal fs h)
 
 -- the rules from word i on, the first k passed, decide
-pub record Trying (es : List ℕ) (goal : ℕ) (fs ws : List ℕ) (t i k : ℕ) : Type 0 where
+pub record Trying (es : List ℕ) (w : Wish) (ws : List ℕ) (t i k : ℕ) : Type 0 where
   pub ahead : Ahead ws i k
-  pub same : (R : List Rule) (ns st : List ℕ) →
+  pub same : (R : List Rule) (ns st : List ℕ) (goal : ℕ) (fs : List ℕ) → w ≡ wishOf goal fs →
       let T = tablesOf R ns (edgesOf es) in
       conversion T goal st (drop k (theRules ws)) (k + 1) fs t ≡ conversion T goal st (theRules ws) 1 fs t
 
-module _ (es : List ℕ) (goal : ℕ) (fs ws : List ℕ) (t : ℕ) where
-  pub trying-start : someRules ws ≡ true → Trying es goal fs ws t 0 0
-  trying-start g = record { ahead = ahead-start ws g; same = λ R ns st. refl }
+module _ (es : List ℕ) (w : Wish) (ws : List ℕ) (t : ℕ) where
+  pub trying-start : someRules ws ≡ true → Trying es w ws t 0 0
+  trying-start g = record { ahead = ahead-start ws g; same = λ R ns st goal fs h. refl }
 
-  module _ (i k : ℕ) (g : Trying es goal fs ws t i k) where
-    module _ (l : i < length ws) {b : Bool} (q : Converts es goal fs (ruleOf (take (length ws - i) (drop i ws))) t b) where
+  module _ (i k : ℕ) (g : Trying es w ws t i k) where
+    module _ (l : i < length ws) {b : Bool} (q : Converts es w (ruleOf (take (length ws - i) (drop i ws))) t b) where
       abbrev first : drop k (theRules ws) ≡ ruleOf (drop i ws) ∷ drop (k + 1) (theRules ws)
       first = ahead-here ws i k (g .ahead) l .first
 
-      test : (R : List Rule) (ns st : List ℕ)
+      test : (R : List Rule) (ns st : List ℕ) (goal : ℕ) (fs : List ℕ) → w ≡ wishOf goal fs
           → b ≡ comesFrom (source (ruleOf (drop i ws) .body)) t && wanted (tablesOf R ns (edgesOf es)) goal st fs (ruleOf (drop i ws) .result)
-      test R ns st = rw (part-all ws i) at (q R ns st)
+      test R ns st goal fs h = rw (part-all ws i) at (q R ns st goal fs h)
 
-      pub trying-here : b ≡ true → Chooses es goal fs (theRules ws) t (By (record { 0 = k + 1 }))
+      pub trying-here : b ≡ true → Chooses es w (theRules ws) t (By (record { 0 = k + 1 }))
       unfolding conversion
-      trying-here e R ns st = sym (hit _ _ _ (sym (test R ns st) ∙ e)) ∙ (rw first at (g .same R ns st))
+      trying-here e R ns st goal fs h = sym (hit _ _ _ (sym (test R ns st goal fs h) ∙ e)) ∙ (rw first at (g .same R ns st goal fs h))
 
-      pub trying-next : b ≡ false → Trying es goal fs ws t (i + sizeOf (drop i ws)) (k + 1)
+      pub trying-next : b ≡ false → Trying es w ws t (i + sizeOf (drop i ws)) (k + 1)
       unfolding conversion
       trying-next e = record {
         ahead = ahead-here ws i k (g .ahead) l .next;
-        same = λ R ns st. rw (add-one (k + 1)) (sym (miss _ _ _ (sym (test R ns st) ∙ e)) ∙ (rw first at (g .same R ns st)));
+        same = λ R ns st goal fs h.
+            rw (add-one (k + 1)) (sym (miss _ _ _ (sym (test R ns st goal fs h) ∙ e)) ∙ (rw first at (g .same R ns st goal fs h)));
       }
 
-    pub trying-end : length ws ≤ i → Chooses es goal fs (theRules ws) t Nothing
+    pub trying-end : length ws ≤ i → Chooses es w (theRules ws) t Nothing
     unfolding conversion
-    trying-end h R ns st =
-        let n = ahead-end ws i k (g .ahead) h in
-        rw (drop-of-length-le (theRules ws) {i = k} (omega arith)) at (g .same R ns st)
+    trying-end l R ns st goal fs h =
+        let n = ahead-end ws i k (g .ahead) l in
+        rw (drop-of-length-le (theRules ws) {i = k} (omega arith)) at (g .same R ns st goal fs h)

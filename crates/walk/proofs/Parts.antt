@@ -1,5 +1,5 @@
 -- The parts of a pass: each answer of the code is what the definition says.
-use mathlib.Core.Path.{_≡_, refl, subst}
+use mathlib.Core.Path.{_≡_, refl, sym, subst, _∙_}
 use mathlib.Core.Bool.{Bool, true, false, not}
 use mathlib.Core.List.{List, [], _∷_}
 use mathlib.Core.Option.{Option, some, none}
@@ -17,6 +17,8 @@ use Rattle.rules.specs.Rules.{theRules, ruleOf}
 use Rattle.words.specs.laws.Parts.{part-all}
 use Rattle.words.specs.laws.Tests.{failed, passed}
 use Rattle.words.specs.declared.RuleNo.{RuleNo}
+use Rattle.words.specs.declared.NodeNo.{NodeNo}
+use Rattle.words.specs.declared.SymbolNo.{SymbolNo}
 use Rattle.rules.specs.Code as rules
 use Rattle.rules.specs.Code.{Starts, Missing}
 use Rattle.rules.specs.declared.Start.{Start}
@@ -36,14 +38,17 @@ use Rattle.formula.specs.declared.Trees as held
 use Rattle.formula.specs.declared.Reduced.{Reduced}
 use Rattle.formula.specs.declared.Reduced.the-variants.{Done, TooFew, Full}
 use Rattle.walk.specs.Walk.{Tables, tablesOf, Room, State, wanted, conversion, follow, rootBy, rootStep, finish, convertBy, unwanted, popBy, goalBy, complete, leaf, token, branch, pass, Turn, after, start, walk}
-use Rattle.walk.specs.Code.{tables, roomOf, stack, stateOf, Chooses, Placed, Fit, Follows, Roots, Opens, Branches, Lies, Finishes, Closes, Unwanted, Completes, Leaves}
+use Rattle.walk.specs.Code.{tables, roomOf, stack, stateOf, Chooses, Placed, Fit, Follows, Roots, Opens, Branches, Lies, Finishes, Closes, Bare, Framed, Stood, standAt, under, Unwanted, Completes, Leaves}
+use Rattle.walk.specs.declared.Wish.{Wish}
+use Rattle.walk.specs.declared.Wish.the-variants.{Goal, Frame}
+use Rattle.walk.specs.declared.Stand.{Stand}
 use Rattle.walk.specs.declared.At.{At}
 use Rattle.walk.specs.declared.Why.the-variants.{Unparseable, TooShort, Misfit, NoFrame, NoEntry}
 use Rattle.walk.specs.declared.Turn as declared
 use Rattle.walk.specs.declared.Turn.the-variants.{On, End, Stop}
 use Rattle.walk.specs.declared.Chosen.{Chosen}
 use Rattle.walk.specs.declared.Chosen.the-variants.{By, Nothing}
-use Rattle.walk.proofs.Laws.{stack-length, stack-none, stack-pop, stack-push}
+use Rattle.walk.proofs.Laws.{stack-length, stack-push, stack-top, bare-none}
 
 -- ---- an edge that is followed
 
@@ -213,65 +218,81 @@ module _ (rs : List ℕ) (goal : ℕ) (ts : List ℕ) (c room : ℕ) (us : held.
 
 -- ---- a tree that is complete and not wanted
 
-module _ (rs es : List ℕ) (goal : ℕ) (ts : List ℕ) (room : ℕ) (s : At) (fs ls ws : List ℕ) {r : declared.Turn} {ls′ ws′ : List ℕ} (t : ℕ) (p : Placed s ts fs) where
-  pub unwanted-token : s .token < length ts → Roots rs es room t s ls ws r ls′ ws′ → Unwanted rs es goal ts room s fs ls ws r ls′ ws′ t
+module _ (rs es ts : List ℕ) (p : Stand) (ls ws : List ℕ) {r : declared.Turn} {ls′ ws′ : List ℕ} (t : ℕ) where
+  pub unwanted-token : p .at .token < length ts → Roots rs es (p .room) t (p .at) ls ws r ls′ ws′ → Unwanted rs es ts p ls ws r ls′ ws′ t
   unfolding unwanted
-  unwanted-token h g ns = rw (drop-cons ts (s .token) 0 h) (rw (drop-cons ts (s .token) 0 h) at (g ns (drop 1 ts) ts fs goal p))
+  unwanted-token h g ns fs q =
+      let d = drop-cons ts (p .at .token) 0 h in
+      rw d (rw d at (g ns (drop 1 ts) ts fs (p .goal .0) (q .placed)))
 
-  module _ (h : length ts ≤ s .token) {q : Chosen} (l : Chooses es goal (stack (s .frames) fs) (theRules rs) t q) where
-    pub unwanted-none : q ≡ Nothing → Roots rs es room t s ls ws r ls′ ws′ → Unwanted rs es goal ts room s fs ls ws r ls′ ws′ t
+  module _ (h : length ts ≤ p .at .token) {k : Chosen} (l : Chooses es (p .wish) (theRules rs) t k) where
+    pub unwanted-none : k ≡ Nothing → Roots rs es (p .room) t (p .at) ls ws r ls′ ws′ → Unwanted rs es ts p ls ws r ls′ ws′ t
     unfolding unwanted convertBy tablesOf
-    unwanted-none e g ns =
-        let d = drop-of-length-le ts {i = s .token} h in
-        let o : none ≡ conversion (tables rs ns es) goal (drop 1 ts) (theRules rs) 1 (stack (s .frames) fs) t = rw e at (l (theRules rs) ns (drop 1 ts)) in
-        rw (d, ← o) (rw d at (g ns (drop 1 ts) ts fs goal p))
+    unwanted-none e g ns fs q =
+        let d = drop-of-length-le ts {i = p .at .token} h in
+        let o : none ≡ conversion (tables rs ns es) (p .goal .0) (drop 1 ts) (theRules rs) 1 (stack (p .at .frames) fs) t =
+        rw e at (l (theRules rs) ns (drop 1 ts) (p .goal .0) (stack (p .at .frames) fs) (q .wish)) in
+        rw (d, ← o) (rw d at (g ns (drop 1 ts) ts fs (p .goal .0) (q .placed)))
 
-    pub unwanted-by : (c : RuleNo) → q ≡ By c → Closes rs goal ts (c .0) room (s .trees) ls ws r ls′ ws′ → Unwanted rs es goal ts room s fs ls ws r ls′ ws′ t
+    pub unwanted-by : (c : RuleNo) → k ≡ By c → Closes rs (p .goal .0) ts (c .0) (p .room) (p .at .trees) ls ws r ls′ ws′
+        → Unwanted rs es ts p ls ws r ls′ ws′ t
     unfolding unwanted convertBy tablesOf
-    unwanted-by c e g ns =
-        let d = drop-of-length-le ts {i = s .token} h in
-        let o : some (c .0) ≡ conversion (tables rs ns es) goal (drop 1 ts) (theRules rs) 1 (stack (s .frames) fs) t = rw e at (l (theRules rs) ns (drop 1 ts)) in
+    unwanted-by c e g ns fs q =
+        let d = drop-of-length-le ts {i = p .at .token} h in
+        let o : some (c .0) ≡ conversion (tables rs ns es) (p .goal .0) (drop 1 ts) (theRules rs) 1 (stack (p .at .frames) fs) t =
+        rw e at (l (theRules rs) ns (drop 1 ts) (p .goal .0) (stack (p .at .frames) fs) (q .wish)) in
         rw (d, ← o) (g ns es fs)
 
 -- ---- a tree that is complete
 
-module _ (rs es : List ℕ) (goal : ℕ) (ts : List ℕ) (room : ℕ) (s : At) (fs ls ws : List ℕ) {r : declared.Turn} {ls′ ws′ : List ℕ} (t : ℕ) (p : Placed s ts fs) where
-  -- with a frame
-  module _ (z : s .frames ≡ 0 → ⊥) {f : Found} (l : f ≡ looksUp es (getD fs (s .frames - 1) 0) 1 t) where
-    pub pop-none : f ≡ found.Nothing → Unwanted rs es goal ts room s fs ls ws r ls′ ws′ t → Completes rs es goal ts room s fs ls ws r ls′ ws′ t
-    unfolding complete popBy tablesOf
-    pop-none e g ns =
-        let d = stack-pop (s .frames) fs z in
-        rw (d, none-found es (getD fs (s .frames - 1) 0) 1 t l e) (rw d at (g ns))
+pub goal-bare : (w : Wish) (g : SymbolNo) → w ≡ Goal g → Bare w
+goal-bare w g e = rw e tt
 
-    pub pop-row : (row : ℕ) → f ≡ Row row
-        → Follows rs room (edgeOf (rowAt es row))
-        (record { node = s .node; frames = s .frames - 1; trees = s .trees; token = s .token; last = s .last }) ls ws r ls′ ws′
-        → Completes rs es goal ts room s fs ls ws r ls′ ws′ t
+pub frame-framed : (w : Wish) (n : ℕ) (f : NodeNo) → w ≡ Frame f → Framed w n → 1 ≤ n
+frame-framed w n f e h = rw e at h
+
+module _ {ts : List ℕ} {p : Stand} {fs : List ℕ} (q : Stood p ts fs) where
+  on-top : (top : NodeNo) → p .wish ≡ Frame top → stack (p .at .frames) fs ≡ top .0 ∷ stack (p .at .frames - 1) fs
+  on-top top w = stack-top (p .at .frames) fs (p .goal .0) top (sym w ∙ q .wish)
+
+  none-left : Bare (p .wish) → stack (p .at .frames) fs ≡ []
+  none-left b = bare-none (p .wish) (p .goal .0) (stack (p .at .frames) fs) b (q .wish)
+
+module _ (rs es ts : List ℕ) (p : Stand) (ls ws : List ℕ) {r : declared.Turn} {ls′ ws′ : List ℕ} (t : ℕ) where
+  -- with a frame
+  module _ (top : NodeNo) (w : p .wish ≡ Frame top) {f : Found} (l : f ≡ looksUp es (top .0) 1 t) where
+    pub pop-none : f ≡ found.Nothing → Unwanted rs es ts p ls ws r ls′ ws′ t → Completes rs es ts p ls ws r ls′ ws′ t
+    unfolding complete popBy tablesOf
+    pop-none e g ns fs q = let d = on-top q top w in rw (d, none-found es (top .0) 1 t l e) (rw d at (g ns fs q))
+
+    pub pop-row : (row : ℕ) → f ≡ Row row → Follows rs (p .room) (edgeOf (rowAt es row)) (under (p .at)) ls ws r ls′ ws′
+        → Completes rs es ts p ls ws r ls′ ws′ t
     unfolding complete popBy follow tablesOf
-    pop-row row e g ns =
-        let q = g ns es (drop 1 ts) ts fs goal (record { begun = p .begun; token = p .token; frames = omega (arith, p .frames) }) in
-        rw (stack-pop (s .frames) fs z, row-found es (getD fs (s .frames - 1) 0) 1 t l row e .finds) q
+    pop-row row e g ns fs q =
+        let i = q .placed in
+        let v = g ns es (drop 1 ts) ts fs (p .goal .0) (record { begun = i .begun; token = i .token; frames = omega (arith, i .frames) }) in
+        rw (on-top q top w, row-found es (top .0) 1 t l row e .finds) v
 
   -- without
-  module _ (z : s .frames ≡ 0) where
-    pub bottom-other : (t ≡ goal → ⊥) → Unwanted rs es goal ts room s fs ls ws r ls′ ws′ t → Completes rs es goal ts room s fs ls ws r ls′ ws′ t
+  module _ (b : Bare (p .wish)) where
+    pub bottom-other : (t ≡ p .goal .0 → ⊥) → Unwanted rs es ts p ls ws r ls′ ws′ t → Completes rs es ts p ls ws r ls′ ws′ t
     unfolding complete goalBy
-    bottom-other h g ns = let d = stack-none (s .frames) fs z in rw (d, ne-eqb t goal h) (rw d at (g ns))
+    bottom-other h g ns fs q = let d = none-left q b in rw (d, ne-eqb t (p .goal .0) h) (rw d at (g ns fs q))
 
-    pub bottom-token : t ≡ goal → s .token < length ts → Roots rs es room t s ls ws r ls′ ws′ → Completes rs es goal ts room s fs ls ws r ls′ ws′ t
+    pub bottom-token : t ≡ p .goal .0 → p .at .token < length ts → Roots rs es (p .room) t (p .at) ls ws r ls′ ws′
+        → Completes rs es ts p ls ws r ls′ ws′ t
     unfolding complete goalBy
-    bottom-token e h g ns =
-        let d = stack-none (s .frames) fs z in
-        let q = drop-cons ts (s .token) 0 h in
-        rw (d, eq-eqb t goal e, q) (rw (d, q) at (g ns (drop 1 ts) ts fs goal p))
+    bottom-token e h g ns fs q =
+        let d = none-left q b in
+        let k = drop-cons ts (p .at .token) 0 h in
+        rw (d, eq-eqb t (p .goal .0) e, k) (rw (d, k) at (g ns (drop 1 ts) ts fs (p .goal .0) (q .placed)))
 
 -- the goal, and no token left
-pub bottom-ends : (rs es : List ℕ) (goal : ℕ) (ts : List ℕ) (room : ℕ) (s : At) (fs ls ws : List ℕ) {r : declared.Turn} {ws′ : List ℕ} (t : ℕ)
-    → s .frames ≡ 0 → t ≡ goal → length ts ≤ s .token → Finishes rs goal ts (s .trees) ls ws r ws′ → Completes rs es goal ts room s fs ls ws r ls ws′ t
+pub bottom-ends : (rs es ts : List ℕ) (p : Stand) (ls ws : List ℕ) {r : declared.Turn} {ws′ : List ℕ} (t : ℕ) → Bare (p .wish) → t ≡ p .goal .0
+    → length ts ≤ p .at .token → Finishes rs (p .goal .0) ts (p .at .trees) ls ws r ws′ → Completes rs es ts p ls ws r ls ws′ t
 unfolding complete goalBy
-bottom-ends rs es goal ts room s fs ls ws t z e h g ns =
-    rw (stack-none (s .frames) fs z, eq-eqb t goal e, drop-of-length-le ts {i = s .token} h) (g ns es fs room)
+bottom-ends rs es ts p ls ws t b e h g ns fs q =
+    rw (none-left q b, eq-eqb t (p .goal .0) e, drop-of-length-le ts {i = p .at .token} h) (g ns es fs (p .room))
 
 -- ---- a pass at a leaf
 
@@ -322,29 +343,30 @@ is-missing ws n f e = rw e at f
 abbrev pub regrown : At → held.Trees → At
 regrown s us = record { node = s .node; frames = s .frames; trees = us; token = s .token; last = s .last }
 
-module _ (rs es : List ℕ) (goal : ℕ) (ts : List ℕ) (room : ℕ) (s : At) (fs ls ws : List ℕ) (c : ℕ) where
-  pub leaf-missing : Missing rs c → Leaves rs es goal ts room s fs ls ws (Stop Misfit) ls ws c
+module _ (rs es ts : List ℕ) (p : Stand) (ls ws : List ℕ) (c : ℕ) where
+  pub leaf-missing : Missing rs c → Leaves rs es ts p ls ws (Stop Misfit) ls ws c
   unfolding leaf
-  leaf-missing h ns = record { turned = rw (h .unnamed); whole = tt }
+  leaf-missing h ns fs q = record { turned = rw (h .unnamed); whole = tt }
 
-  module _ (i : ℕ) (q : Starts rs c i) {r : Reduced} {ls′ ws′ : List ℕ}
-      (g : formula.Gives room r ls′ ws′ (reduce (theRules rs) room c 0 (formula.treesOf (s .trees) ls ws))) where
+  module _ (i : ℕ) (s : Starts rs c i) {r : Reduced} {ls′ ws′ : List ℕ}
+      (g : formula.Gives (p .room) r ls′ ws′ (reduce (theRules rs) (p .room) c 0 (formula.treesOf (p .at .trees) ls ws))) where
+    abbrev one : Res Why Trees
+    one = reduce (theRules rs) (p .room) c 0 (formula.treesOf (p .at .trees) ls ws)
+
     pub leaf-done : (us : held.Trees) → r ≡ Done us → {w : declared.Turn} {ls″ ws″ : List ℕ} {t : ℕ} → t ≡ ruleOf (take (length rs - i) (drop i rs)) .result
-        → Completes rs es goal ts room (regrown s us) fs ls′ ws′ w ls″ ws″ t → Leaves rs es goal ts room s fs ls ws w ls″ ws″ c
+        → Completes rs es ts (standAt p (regrown (p .at) us)) ls′ ws′ w ls″ ws″ t → Leaves rs es ts p ls ws w ls″ ws″ c
     unfolding leaf bind tablesOf
-    leaf-done us e d h ns =
-        let o : ok (formula.treesOf us ls′ ws′) ≡ reduce (theRules rs) room c 0 (formula.treesOf (s .trees) ls ws) = rw e at (g .outcome) in
-        let k = complete-other (tables rs ns es) goal (drop 1 ts) (roomOf room fs) (stateOf s ts fs ls ws) (formula.treesOf us ls′ ws′) (ruleOf (drop i rs) .result) (stack (s .frames) fs) (formula.treesOf us ls′ ws′) in
-        rw (q .named, ← o, k, ← (rw (part-all rs i) at d)) (h ns)
+    leaf-done us e d h ns fs q =
+        let o : ok (formula.treesOf us ls′ ws′) ≡ one = rw e at (g .outcome) in
+        let k = complete-other (tables rs ns es) (p .goal .0) (drop 1 ts) (roomOf (p .room) fs) (stateOf (p .at) ts fs ls ws) (formula.treesOf us ls′ ws′) (ruleOf (drop i rs) .result) (stack (p .at .frames) fs) (formula.treesOf us ls′ ws′) in
+        let n = q .placed in
+        rw (s .named, ← o, k, ← (rw (part-all rs i) at d))
+        (h ns fs (record { placed = record { begun = n .begun; token = n .token; frames = n .frames }; wish = q .wish }))
 
-    pub leaf-few : r ≡ TooFew → Leaves rs es goal ts room s fs ls ws (Stop Misfit) ls′ ws′ c
+    pub leaf-few : r ≡ TooFew → Leaves rs es ts p ls ws (Stop Misfit) ls′ ws′ c
     unfolding leaf bind tablesOf
-    leaf-few e ns =
-        let o : no misfit ≡ reduce (theRules rs) room c 0 (formula.treesOf (s .trees) ls ws) = rw e at (g .outcome) in
-        record { turned = rw (q .named, ← o); whole = tt }
+    leaf-few e ns fs q = let o : no misfit ≡ one = rw e at (g .outcome) in record { turned = rw (s .named, ← o); whole = tt }
 
-    pub leaf-full : r ≡ Full → Leaves rs es goal ts room s fs ls ws (Stop NoEntry) ls′ ws′ c
+    pub leaf-full : r ≡ Full → Leaves rs es ts p ls ws (Stop NoEntry) ls′ ws′ c
     unfolding leaf bind tablesOf
-    leaf-full e ns =
-        let o : no noEntry ≡ reduce (theRules rs) room c 0 (formula.treesOf (s .trees) ls ws) = rw e at (g .outcome) in
-        record { turned = rw (q .named, ← o); whole = tt }
+    leaf-full e ns fs q = let o : no noEntry ≡ one = rw e at (g .outcome) in record { turned = rw (s .named, ← o); whole = tt }

@@ -1,5 +1,5 @@
 -- A pass, the passes under an allowance, and the walk.
-use mathlib.Core.Path.{_≡_, refl, sym, subst, _∙_}
+use mathlib.Core.Path.{_≡_, refl, sym, ap, subst, _∙_}
 use mathlib.Core.Bool.{true}
 use mathlib.Core.List.{List, [], _∷_}
 use Prim.Native.Nat.{ℕ, zero, suc, _+_, _-_, _≤_, _<_}
@@ -12,15 +12,23 @@ use borrow.Author.Tests.{leb-false}
 use lib.Seq.{length-take-le}
 use Rattle.words.specs.Outcome.{Res, lesser}
 use Rattle.words.specs.Limits.{mostTokens}
-use Rattle.words.specs.Numbers.{Why, number, place}
+use Rattle.words.specs.Numbers.{accepted, noPass, Why, number, place}
 use Rattle.rules.specs.Rules.{theRules, ruleAt, rulesGood}
 use Rattle.words.specs.laws.Tests.{by-test, lesser-le}
 use Rattle.rules.specs.laws.Words.{rules-good}
 use Rattle.rows.specs.Rows.{tablesGood}
+use Rattle.words.specs.declared.RuleNo.{RuleNo}
+use Rattle.words.specs.declared.SymbolNo.{SymbolNo}
 use Rattle.formula.specs.Code as formula
 use Rattle.formula.specs.laws.Held.{trees-none, inside-none}
-use Rattle.walk.specs.Walk.{Tables, tablesOf, Room, State, leaf, token, passBy, pass, Turn, Walked, refused, after, run, start, wantedOf, walk}
-use Rattle.walk.specs.Code.{tables, roomOf, stack, stateOf, Placed, Fit, Branches, Leaves, Passes, startAt, Lent, Ready, Answers, whyOf, turnOf}
+use Rattle.walk.specs.Walk.{Tables, tablesOf, Room, State, leaf, branch, passBy, pass, Turn, Walked, refused, after, run, start, wantedOf, walk}
+use Rattle.walk.specs.Code.{tables, roomOf, stack, stateOf, Placed, Fit, wishOf, Stood, Ready, Branches, Leaves, nodeIs, Passes, startAt, Lent, Answers, whyOf, turnOf}
+use Rattle.walk.specs.declared.Wish.{Wish}
+use Rattle.walk.specs.declared.Stand.{Stand}
+use Rattle.walk.specs.declared.Held.{Held}
+use Rattle.walk.specs.declared.Node.{Node}
+use Rattle.walk.specs.declared.Node.the-variants.{Branch, Leaf}
+use Rattle.walk.proofs.Laws.{framed}
 use Rattle.walk.specs.declared.Why as code
 use Rattle.walk.specs.laws.Ample.{tables-slim, walk-ample}
 use Rattle.walk.specs.declared.Walked as answer
@@ -30,25 +38,44 @@ use Rattle.walk.specs.declared.Turn.the-variants.{On, End, Stop}
 
 -- ---- one pass
 
-passBy-leaf : (T : Tables) (goal : ℕ) (st : List ℕ) (m : Room) (s : State) (w : ℕ) → (w ≡ 0 → ⊥)
-    → passBy T goal st m s w ≡ leaf T goal st m s w (ruleAt (T .rules) w)
-unfolding passBy
-passBy-leaf T goal st m s zero h = absurd (h refl)
-passBy-leaf T goal st m s (suc w) h = refl
+pub leaf-word : (w : ℕ) → (w ≡ 0 → ⊥) → Leaf (record { 0 = w }) ≡ nodeIs w
+leaf-word zero h = absurd (h refl)
+leaf-word (suc w) h = refl
 
-module _ (rs ns es : List ℕ) (goal : ℕ) (ts : List ℕ) (room : ℕ) (s : At) (fs ls ws : List ℕ) {r : declared.Turn} {ls′ ws′ : List ℕ} {w : ℕ} (e : w ≡ getD ns (s .node .0) 0) where
-  pub pass-branch : {fs′ : List ℕ} → w ≡ 0 → Branches rs es ts room s fs ls ws r fs′ ls′ ws′ → Passes rs ns es goal ts room s fs ls ws r fs′ ls′ ws′
-  unfolding pass passBy tablesOf
-  pass-branch z g = rw (← e, z) (g ns (drop 1 ts) goal)
+module _ (T : Tables) (goal : ℕ) (st : List ℕ) (m : Room) (s : State) where
+  passBy-branch : (w : ℕ) → Branch ≡ nodeIs w → passBy T goal st m s w ≡ branch T goal st m s (s .rest)
+  unfolding passBy
+  passBy-branch zero h = refl
+  passBy-branch (suc w) h = let z : _≡_ {A = ℕ} 0 1 = cc in absurd (omega arith)
 
-  pub pass-leaf : (w ≡ 0 → ⊥) → Leaves rs es goal ts room s fs ls ws r ls′ ws′ w → Passes rs ns es goal ts room s fs ls ws r fs ls′ ws′
+  passBy-leaf : (w : ℕ) (c : RuleNo) → Leaf c ≡ nodeIs w → passBy T goal st m s w ≡ leaf T goal st m s (c .0) (ruleAt (T .rules) (c .0))
+  unfolding passBy
+  passBy-leaf zero c h = let z : _≡_ {A = ℕ} 0 1 = cc in absurd (omega arith)
+  passBy-leaf (suc w) c h =
+      let e : c ≡ record { 0 = suc w } = cc in
+      let d : c .0 ≡ suc w = ap (λ (x : RuleNo). x .0) e in
+      rw d
+
+module _ (rs ns es ts : List ℕ) (p : Stand) (fs ls ws : List ℕ) {q : Node}
+    (e : q ≡ nodeIs (getD ns (p .at .node .0) 0)) where
+  pub pass-branch : {r : declared.Turn} {fs′ ls′ ws′ : List ℕ} → q ≡ Branch → Branches rs es ts (p .room) (p .at) fs ls ws r fs′ ls′ ws′
+      → Passes rs ns es (p .goal .0) ts (p .room) (p .at) fs ls ws r fs′ ls′ ws′
   unfolding pass tablesOf
-  pass-leaf z g = rw (← e, passBy-leaf (tables rs ns es) goal (drop 1 ts) (roomOf room fs) (stateOf s ts fs ls ws) w z) (g ns)
+  pass-branch z g =
+      rw (passBy-branch (tables rs ns es) (p .goal .0) (drop 1 ts) (roomOf (p .room) fs) (stateOf (p .at) ts fs ls ws) _ (sym z ∙ e))
+      (g ns (drop 1 ts) (p .goal .0))
+
+  pub pass-leaf : {r : declared.Turn} {ls′ ws′ : List ℕ} (c : RuleNo) → q ≡ Leaf c → Stood p ts fs → Leaves rs es ts p ls ws r ls′ ws′ (c .0)
+      → Passes rs ns es (p .goal .0) ts (p .room) (p .at) fs ls ws r fs ls′ ws′
+  unfolding pass tablesOf
+  pass-leaf c z h g =
+      rw (passBy-leaf (tables rs ns es) (p .goal .0) (drop 1 ts) (roomOf (p .room) fs) (stateOf (p .at) ts fs ls ws) _ c (sym z ∙ e))
+      (g ns fs h)
 
 -- ---- passes under an allowance
 
 module _ (next : Room → State → Res Why Turn) (m : Room) (n : ℕ) (s : State) where
-  run-none : (a : ℕ) → a ≡ 0 → run next a m n s ≡ refused 5 0 n
+  run-none : (a : ℕ) → a ≡ 0 → run next a m n s ≡ refused noPass 0 n
   unfolding run
   run-none a e = rw e
 
@@ -57,65 +84,92 @@ module _ (next : Room → State → Res Why Turn) (m : Room) (n : ℕ) (s : Stat
   run-more zero h = absurd (not-suc-le-zero h)
   run-more (suc a) h = let e : suc a - 1 ≡ a = omega arith in rw (e, add-one n)
 
-pub ready-start : {rs es : List ℕ} (ts fs ls ws : List ℕ) {room : ℕ} → Fit rs es → 1 ≤ length ts → length ts ≤ mostTokens → Lent room (length ls) (length ws)
-    → Ready rs es ts room startAt fs ls ws
-ready-start ts fs ls ws {room} f one most l = record {
+-- what a walk has at every pass
+pub record Going (rs es ts : List ℕ) (room : ℕ) (s : At) (fs ls ws : List ℕ) : Type 0 where
+  pub fit : Fit rs es
+  pub short : length ts ≤ mostTokens
+  pub placed : Placed s ts fs
+  pub inside : formula.Inside room (s .trees) ls ws
+
+pub going-start : {rs es : List ℕ} (ts fs ls ws : List ℕ) {room : ℕ} → Fit rs es → 1 ≤ length ts → length ts ≤ mostTokens → Lent room (length ls) (length ws)
+    → Going rs es ts room startAt fs ls ws
+going-start ts fs ls ws {room} f one most l = record {
   fit = f;
   short = most;
   placed = record { begun = omega arith; token = one; frames = omega arith };
   inside = inside-none room ls ws (l .list, l .work) (l .words);
 }
 
-module _ (rs ns es : List ℕ) (goal : ℕ) (ts : List ℕ) (a room : ℕ) (fs₀ : List ℕ) where
+-- so it is ready for one, with what is wanted there
+pub going-ready : {rs es ts : List ℕ} (goal : SymbolNo) (room : ℕ) (s : At) {fs ls ws : List ℕ} → Going rs es ts room s fs ls ws
+    → (w : Wish) → w ≡ wishOf (goal .0) (stack (s .frames) fs) →
+    let p : Stand = record { goal = goal; wish = w; room = room; at = s } in
+    Ready rs es ts p ls ws × Stood p ts fs
+going-ready goal room s {fs} g w e = (
+  record {
+    fit = g .fit;
+    short = g .short;
+    begun = g .placed .begun;
+    token = g .placed .token;
+    framed = rw e (framed (s .frames) fs (goal .0));
+    inside = g .inside;
+  },
+  record { placed = g .placed; wish = e },
+)
+
+module _ (rs ns es ts : List ℕ) (h : Held) (fs₀ : List ℕ) where
   abbrev from : Room → ℕ → ℕ → State → Walked
-  from m k n s = run (pass (tables rs ns es) goal (drop 1 ts)) k m n s
+  from m k n s = run (pass (tables rs ns es) (h .goal .0) (drop 1 ts)) k m n s
 
   abbrev theWalk : Walked
-  theWalk = from (roomOf room fs₀) a 0 (start (drop 1 ts))
+  theWalk = from (roomOf (h .room) fs₀) (h .allowance) 0 (start (drop 1 ts))
 
   -- n passes are made, and what is left comes to the walk from its start
   pub record Walking (s : At) (n : ℕ) (fs ls ws : List ℕ) : Type 0 where
-    pub made : n ≤ a
+    pub made : n ≤ h .allowance
     pub kept : length fs ≡ length fs₀
-    pub ready : Ready rs es ts room s fs ls ws
-    pub same : from (roomOf room fs) (a - n) n (stateOf s ts fs ls ws) ≡ theWalk
+    pub going : Going rs es ts (h .room) s fs ls ws
+    pub same : from (roomOf (h .room) fs) (h .allowance - n) n (stateOf s ts fs ls ws) ≡ theWalk
 
-  pub walking-start : (ls ws : List ℕ) → Ready rs es ts room startAt fs₀ ls ws → Walking startAt 0 fs₀ ls ws
+  pub walking-start : (ls ws : List ℕ) → Going rs es ts (h .room) startAt fs₀ ls ws → Walking startAt 0 fs₀ ls ws
   unfolding start stack
-  walking-start ls ws r = record { made = omega arith; kept = refl; ready = r; same = rw (sub-zero a, trees-none ls ws) }
+  walking-start ls ws r = record { made = omega arith; kept = refl; going = r; same = rw (sub-zero (h .allowance), trees-none ls ws) }
 
   module _ (s : At) (n : ℕ) (fs ls ws : List ℕ) (w : Walking s n fs ls ws) where
+    abbrev left : ℕ
+    left = h .allowance - n
+
     -- the allowance is used up
-    pub walking-out : a ≤ n → Answers (record { number = 5; place = 0; length = 0; passes = n }) ls theWalk
-    walking-out h = subst (Answers (record { number = 5; place = 0; length = 0; passes = n }) ls)
-        (sym (run-none (pass (tables rs ns es) goal (drop 1 ts)) (roomOf room fs) n (stateOf s ts fs ls ws) (a - n) (omega arith)) ∙ w .same)
+    pub walking-out : h .allowance ≤ n → Answers (record { number = noPass; place = 0; length = 0; passes = n }) ls theWalk
+    walking-out g = subst (Answers (record { number = noPass; place = 0; length = 0; passes = n }) ls)
+        (sym (run-none (pass (tables rs ns es) (h .goal .0) (drop 1 ts)) (roomOf (h .room) fs) n (stateOf s ts fs ls ws) left (omega arith)) ∙ w .same)
         (record { walked = refl; length = refl; within = omega arith })
 
     -- a further pass
-    module _ (h : n < a) {r : declared.Turn} {fs′ ls′ ws′ : List ℕ} (g : Passes rs ns es goal ts room s fs ls ws r fs′ ls′ ws′) where
-      further : after (n + 1) (λ q. from (roomOf room fs) (a - n - 1) (n + 1) q) (turnOf r ts fs′ ls′ ws′) ≡ theWalk
-      further = rw (g .turned) (sym (run-more (pass (tables rs ns es) goal (drop 1 ts)) (roomOf room fs) n (stateOf s ts fs ls ws) (a - n) (omega arith)) ∙ w .same)
+    module _ (l : n < h .allowance) {r : declared.Turn} {fs′ ls′ ws′ : List ℕ} (g : Passes rs ns es (h .goal .0) ts (h .room) s fs ls ws r fs′ ls′ ws′) where
+      further : after (n + 1) (λ q. from (roomOf (h .room) fs) (left - 1) (n + 1) q) (turnOf r ts fs′ ls′ ws′) ≡ theWalk
+      further = rw (g .turned) (sym (run-more (pass (tables rs ns es) (h .goal .0) (drop 1 ts)) (roomOf (h .room) fs) n (stateOf s ts fs ls ws) left (omega arith)) ∙ w .same)
 
       pub walking-on : (q : At) → r ≡ On q → length fs′ ≡ length fs → Walking q (n + 1) fs′ ls′ ws′
       unfolding after
       walking-on q e k =
-          let p : Placed q ts fs′ × formula.Inside room (q .trees) ls′ ws′ = rw e at (g .whole) in
-          let less : a - (n + 1) ≡ a - n - 1 = omega arith in
+          let p : Placed q ts fs′ × formula.Inside (h .room) (q .trees) ls′ ws′ = rw e at (g .whole) in
+          let less : h .allowance - (n + 1) ≡ left - 1 = omega arith in
           record {
             made = omega arith;
             kept = k ∙ w .kept;
-            ready = record { fit = w .ready .fit; short = w .ready .short; placed = p .0; inside = p .1 };
+            going = record { fit = w .going .fit; short = w .going .short; placed = p .0; inside = p .1 };
             same = rw (less, k) (rw e at further);
           }
 
       pub end-fits : (k : ℕ) → r ≡ End k → k ≤ formula.mostRoom
       end-fits k e = let p : (k ≤ length ls′) × (k ≤ formula.mostRoom) = rw e at (g .whole) in p .1
 
-      pub walking-end : (k : ℕ) → r ≡ End k → Answers (record { number = 0; place = 0; length = k; passes = n + 1 }) ls′ theWalk
+      pub walking-end : (k : ℕ) → r ≡ End k → Answers (record { number = accepted; place = 0; length = k; passes = n + 1 }) ls′ theWalk
       unfolding after
       walking-end k e =
           let p : (k ≤ length ls′) × (k ≤ formula.mostRoom) = rw e at (g .whole) in
-          subst (Answers (record { number = 0; place = 0; length = k; passes = n + 1 }) ls′) (rw e at further)
+          subst (Answers (record { number = accepted; place = 0; length = k; passes = n + 1 }) ls′) (rw e at further)
           (record { walked = refl; length = sym (length-take-le k ls′ (p .0)); within = p .0 })
 
       pub walking-stop : (y : code.Why) → r ≡ Stop y → (k p : ℕ) → k ≡ number (whyOf y) → p ≡ place (whyOf y)

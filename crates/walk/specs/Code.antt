@@ -1,5 +1,5 @@
 -- What the code's own types and buffers stand for, in the terms of the definitions.
-use Prim.Native.Nat.{ℕ, zero, suc, _≤_}
+use Prim.Native.Nat.{ℕ, zero, suc, _-_, _≤_}
 use mathlib.Core.Path.{_≡_}
 use mathlib.Core.Bool.{Bool, true, _&&_}
 use mathlib.Core.List.{List, [], _∷_}
@@ -17,6 +17,11 @@ use Rattle.formula.specs.declared.Trees as held
 use Rattle.formula.specs.Code as formula
 use Rattle.walk.specs.Walk.{Tables, tablesOf, Room, State, Turn, on, end, comesFrom, wanted, conversion, follow, rootStep, finish, unwanted, complete, leaf, token, branch, pass, Walked}
 use Rattle.walk.specs.declared.At.{At}
+use Rattle.walk.specs.declared.Wish.{Wish}
+use Rattle.walk.specs.declared.Wish.the-variants.{Goal, Frame}
+use Rattle.walk.specs.declared.Stand.{Stand}
+use Rattle.walk.specs.declared.Node.{Node}
+use Rattle.walk.specs.declared.Node.the-variants.{Branch, Leaf}
 use Rattle.walk.specs.declared.Why.{Why}
 use Rattle.walk.specs.declared.Why.the-variants.{Unparseable, TooShort, Misfit, NoFrame, NoEntry}
 use Rattle.walk.specs.declared.Turn as declared
@@ -85,34 +90,67 @@ pub record Fit (rs es : List ℕ) : Type 0 where
   pub rules : someRules rs ≡ true
   pub slim : (n k t : ℕ) (e : Edge) → find (edgesOf es) n k t ≡ some e → length (e .reduces) ≤ mostReduces
 
--- what every pass starts from
-pub record Ready (rs es ts : List ℕ) (room : ℕ) (s : At) (fs ls ws : List ℕ) : Type 0 where
+-- ---- what a pass goes by
+
+-- what is wanted with this goal and these frames
+abbrev pub wishOf : ℕ → List ℕ → Wish
+wishOf goal [] = Goal (record { 0 = goal })
+wishOf goal (f ∷ fs) = Frame (record { 0 = f })
+
+-- wanted without frames
+abbrev pub Bare : Wish → Type 0
+Bare (Goal g) = Unit {0}
+Bare (Frame f) = ⊥
+
+-- where a frame wants it there is one
+abbrev pub Framed : Wish → ℕ → Type 0
+Framed (Goal g) n = Unit {0}
+Framed (Frame f) n = 1 ≤ n
+
+-- over the tokens ts and the frame slice fs it stands where it says, and wants what is wanted there
+pub record Stood (p : Stand) (ts fs : List ℕ) : Type 0 where
+  pub placed : Placed (p .at) ts fs
+  pub wish : p .wish ≡ wishOf (p .goal .0) (stack (p .at .frames) fs)
+
+-- what every pass starts from, but for its frames
+pub record Ready (rs es ts : List ℕ) (p : Stand) (ls ws : List ℕ) : Type 0 where
   pub fit : Fit rs es
   pub short : length ts ≤ mostTokens
-  pub placed : Placed s ts fs
-  pub inside : formula.Inside room (s .trees) ls ws
+  pub begun : 1 ≤ p .at .token
+  pub token : p .at .token ≤ length ts
+  pub framed : Framed (p .wish) (p .at .frames)
+  pub inside : formula.Inside (p .room) (p .at .trees) ls ws
+
+-- a state that stands elsewhere
+abbrev pub standAt : Stand → At → Stand
+standAt p s = record { goal = p .goal; wish = p .wish; room = p .room; at = s }
+
+-- the top frame is popped
+abbrev pub under : At → At
+under s = record { node = s .node; frames = s .frames - 1; trees = s .trees; token = s .token; last = s .last }
 
 abbrev pub roomOf : ℕ → List ℕ → Room
 roomOf room fs = record { frames = length fs; list = room }
 
--- ---- conversions at the end, with frames fs; rules, nodes and statement are whatever they are
+-- ---- conversions at the end, with what is wished; rules, nodes, statement and frames are whatever they are
 
 -- t is wanted or not
-abbrev pub Wants : List ℕ → ℕ → List ℕ → ℕ → Bool → Type 0
-Wants es goal fs t b = (R : List Rule) (ns st : List ℕ) → b ≡ wanted (tablesOf R ns (edgesOf es)) goal st fs t
+abbrev pub Wants : List ℕ → Wish → ℕ → Bool → Type 0
+Wants es w t b = (R : List Rule) (ns st : List ℕ) (goal : ℕ) (fs : List ℕ) → w ≡ wishOf goal fs → b ≡ wanted (tablesOf R ns (edgesOf es)) goal st fs t
 
 -- q is a conversion from t to a wanted typecode or not
-abbrev pub Converts : List ℕ → ℕ → List ℕ → Rule → ℕ → Bool → Type 0
-Converts es goal fs q t b =
-    (R : List Rule) (ns st : List ℕ) → b ≡ comesFrom (source (q .body)) t && wanted (tablesOf R ns (edgesOf es)) goal st fs (q .result)
+abbrev pub Converts : List ℕ → Wish → Rule → ℕ → Bool → Type 0
+Converts es w q t b = (R : List Rule) (ns st : List ℕ) (goal : ℕ) (fs : List ℕ) → w ≡ wishOf goal fs
+    → b ≡ comesFrom (source (q .body)) t && wanted (tablesOf R ns (edgesOf es)) goal st fs (q .result)
 
 abbrev pub chosenOf : Chosen → Option ℕ
 chosenOf (By c) = some (c .0)
 chosenOf Nothing = none
 
 -- the first conversion from t to a wanted typecode
-abbrev pub Chooses : List ℕ → ℕ → List ℕ → List Rule → ℕ → Chosen → Type 0
-Chooses es goal fs qs t r = (R : List Rule) (ns st : List ℕ) → chosenOf r ≡ conversion (tablesOf R ns (edgesOf es)) goal st qs 1 fs t
+abbrev pub Chooses : List ℕ → Wish → List Rule → ℕ → Chosen → Type 0
+Chooses es w qs t r = (R : List Rule) (ns st : List ℕ) (goal : ℕ) (fs : List ℕ) → w ≡ wishOf goal fs
+    → chosenOf r ≡ conversion (tablesOf R ns (edgesOf es)) goal st qs 1 fs t
 
 -- ---- the parts of a pass. What a part does not read is whatever it is; ls and ws are the list and work slices before, ls′ and ws′ after
 
@@ -151,25 +189,30 @@ abbrev pub Branches : List ℕ → List ℕ → List ℕ → ℕ → At → List
 Branches rs es ts room s fs ls ws r fs′ ls′ ws′ = (ns st : List ℕ) (goal : ℕ)
     → Gives room r ts fs′ ls′ ws′ (branch (tables rs ns es) goal st (roomOf room fs) (stateOf s ts fs ls ws) (drop (s .token) ts))
 
--- ---- a pass at a leaf, over whatever nodes
+-- ---- a pass at a leaf, over whatever nodes and frames
 
-module _ (rs es : List ℕ) (goal : ℕ) (ts : List ℕ) (room : ℕ) (s : At) (fs ls ws : List ℕ) (r : declared.Turn) (ls′ ws′ : List ℕ) where
+module _ (rs es ts : List ℕ) (p : Stand) (ls ws : List ℕ) (r : declared.Turn) (ls′ ws′ : List ℕ) where
   -- a tree of typecode t is complete and not wanted
   abbrev pub Unwanted : ℕ → Type 0
-  Unwanted t = (ns : List ℕ) → Gives room r ts fs ls′ ws′
-      (unwanted (tables rs ns es) goal (drop 1 ts) (roomOf room fs) (stateOf s ts fs ls ws) t (formula.treesOf (s .trees) ls ws) (drop (s .token) ts))
+  Unwanted t = (ns fs : List ℕ) → Stood p ts fs → Gives (p .room) r ts fs ls′ ws′
+      (unwanted (tables rs ns es) (p .goal .0) (drop 1 ts) (roomOf (p .room) fs) (stateOf (p .at) ts fs ls ws) t (formula.treesOf (p .at .trees) ls ws) (drop (p .at .token) ts))
 
   -- a tree of typecode t is complete
   abbrev pub Completes : ℕ → Type 0
-  Completes t = (ns : List ℕ) → Gives room r ts fs ls′ ws′
-      (complete (tables rs ns es) goal (drop 1 ts) (roomOf room fs) (stateOf s ts fs ls ws) t (stack (s .frames) fs) (formula.treesOf (s .trees) ls ws))
+  Completes t = (ns fs : List ℕ) → Stood p ts fs → Gives (p .room) r ts fs ls′ ws′
+      (complete (tables rs ns es) (p .goal .0) (drop 1 ts) (roomOf (p .room) fs) (stateOf (p .at) ts fs ls ws) t (stack (p .at .frames) fs) (formula.treesOf (p .at .trees) ls ws))
 
   -- the leaf's rule is c
   abbrev pub Leaves : ℕ → Type 0
-  Leaves c = (ns : List ℕ) → Gives room r ts fs ls′ ws′
-      (leaf (tables rs ns es) goal (drop 1 ts) (roomOf room fs) (stateOf s ts fs ls ws) c (ruleAt (theRules rs) c))
+  Leaves c = (ns fs : List ℕ) → Stood p ts fs → Gives (p .room) r ts fs ls′ ws′
+      (leaf (tables rs ns es) (p .goal .0) (drop 1 ts) (roomOf (p .room) fs) (stateOf (p .at) ts fs ls ws) c (ruleAt (theRules rs) c))
 
 -- ---- passes
+
+-- a node's word: 0 for a branch, else the leaf's rule
+abbrev pub nodeIs : ℕ → Node
+nodeIs zero = Branch
+nodeIs (suc c) = Leaf (record { 0 = suc c })
 
 -- one pass
 abbrev pub Passes : List ℕ → List ℕ → List ℕ → ℕ → List ℕ → ℕ → At → List ℕ → List ℕ → List ℕ → declared.Turn → List ℕ → List ℕ → List ℕ → Type 0

@@ -7,7 +7,7 @@ use Prim.Native.Nat.{ℕ, zero, suc, _+_, pred}
 use lib.Dec.{eqb, ltb}
 use lib.ListN.{length, getD}
 use Rattle.words.specs.Outcome.{Res, ok, no, bind, when}
-use Rattle.words.specs.Numbers.{Why, unparseable, tooShort, misfit, noFrame, noEntry, number, place, numbering}
+use Rattle.words.specs.Numbers.{accepted, tooFewTokens, noPass, Why, unparseable, tooShort, misfit, noFrame, noEntry, number, place, numbering}
 use Rattle.rules.specs.Rules.{Rule, ruleAt, source}
 use Rattle.rows.specs.Rows.{Edge, keyed, find, bare}
 use Rattle.formula.specs.Check.{check, checking}
@@ -147,12 +147,12 @@ refused k p n = record { number = k; place = p; list = []; passes = n }
 -- after pass n: `more` says what comes of a walk that goes on
 unfoldable pub after : ℕ → (State → Walked) → Res Why Turn → Walked
 after n more (no y) = refused (number y) (place y) n
-after n more (ok (end l)) = record { number = 0; place = 0; list = l; passes = n }
+after n more (ok (end l)) = record { number = accepted; place = 0; list = l; passes = n }
 after n more (ok (on s)) = more s
 
--- at most a further passes, after n were made; 5 where a further one is needed
+-- at most a further passes, after n were made; refused where a further one is needed
 unfoldable pub run : (Room → State → Res Why Turn) → ℕ → Room → ℕ → State → Walked
-run next zero m n s = refused 5 0 n
+run next zero m n s = refused noPass 0 n
 run next (suc a) m n s = after (suc n) (λ s. run next a m (suc n) s) (next m s)
 
 unfoldable pub start : List ℕ → State
@@ -168,7 +168,7 @@ wantedOf provable logic t = wantedBy (eqb t provable) logic t
 
 -- the walk of a statement that has tokens after its typecode
 unfoldable pub walk : Tables → ℕ → ℕ → ℕ → Room → List ℕ → Walked
-walk T provable logic a m [] = refused 1 0 0
+walk T provable logic a m [] = refused tooFewTokens 0 0
 walk T provable logic a m (t ∷ xs) = run (pass T (wantedOf provable logic t) xs) a m 0 (start xs)
 
 unfoldable pub walking : Unit {0}

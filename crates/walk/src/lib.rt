@@ -12,7 +12,7 @@ ghost use Rattle.rows.specs.Rows.{edgeOf, tablesGood};
 ghost use Rattle.rows.specs.Code.{rowAt};
 ghost use Rattle.formula.specs.Code.{Inside};
 ghost use Rattle.walk.specs.Walk.{pass, run, start, wantedOf, walk};
-ghost use Rattle.walk.specs.Code.{stack, whyOf, Wants, Converts, Chooses, Fit, Follows, Roots, Opens, Branches, Lies, Finishes, Closes, Ready, Unwanted, Completes, Leaves, Passes, startAt, Lent, roomOf, tables, Answers};
+ghost use Rattle.walk.specs.Code.{stack, whyOf, wishOf, Wants, Converts, Chooses, Fit, Follows, Roots, Opens, Branches, Lies, Finishes, Closes, Bare, Stood, Ready, standAt, under, Unwanted, Completes, Leaves, nodeIs, Passes, startAt, Lent, roomOf, tables, Answers};
 
 // List room past this is not used: a tree's size is one word, and no walk comes near it.
 const MOST_ROOM: usize = 4294967295;
@@ -24,6 +24,45 @@ pub struct At {
     pub trees: formula::Trees,
     pub token: usize,
     pub last: u32,
+}
+
+// What is wanted of a tree: the goal's typecode, or one that the top frame's node has a variable edge for.
+pub enum Wish {
+    Goal(words::SymbolNo),
+    Frame(words::NodeNo),
+}
+
+// What a pass goes by: the typecode wanted without frames, what is wanted now, the list room, and where the walk stands.
+pub struct Stand {
+    pub goal: words::SymbolNo,
+    pub wish: Wish,
+    pub room: usize,
+    pub at: At,
+}
+
+// A tree of typecode `t` is complete.
+pub struct Grown {
+    pub t: words::SymbolNo,
+    pub stand: Stand,
+}
+
+// What a walk is held to: the typecode wanted without frames, the passes allowed, and the list room.
+pub struct Held {
+    pub goal: words::SymbolNo,
+    pub allowance: u32,
+    pub room: usize,
+}
+
+// What a caller of a walk says: its typecodes, and the passes allowed.
+pub struct Terms {
+    pub codes: rules::Codes,
+    pub allowance: u32,
+}
+
+// What stands at a node.
+pub enum Node {
+    Branch,
+    Leaf(words::RuleNo),
 }
 
 // Why a pass is refused, with the place of the token where there is one.
@@ -62,11 +101,11 @@ fn number(y: Why) -> u32
     ensures { λ r. ⌜ r ≡ number (whyOf y) ⌝ }
 {
     match y {
-        Why::Unparseable(_) => 2,
-        Why::TooShort(_) => 3,
-        Why::Misfit => 4,
-        Why::NoFrame => 6,
-        Why::NoEntry => 7,
+        Why::Unparseable(_) => words::UNPARSEABLE,
+        Why::TooShort(_) => words::TOO_SHORT,
+        Why::Misfit => words::MISFIT,
+        Why::NoFrame => words::NO_FRAME,
+        Why::NoEntry => words::NO_ENTRY,
     }
 }
 
@@ -82,40 +121,35 @@ fn place(y: Why) -> u32
     }
 }
 
-// ---- conversions at the end
+// ---- what is wanted, and conversions to it at the end
 
-// Whether `t` is wanted: by the top one of `n` frames, or without frames by the goal.
-fn wanted(
-    edges: &[u32],
-    goal: words::SymbolNo,
-    frames: &[u32],
-    n: usize,
-    t: words::SymbolNo,
-) -> bool
+// What is wanted with `n` frames in use.
+fn wish_of(goal: words::SymbolNo, frames: &[u32], n: usize) -> Wish
     requires { ⌜ n ≤ length (now frames) ⌝ }
-    ensures { λ r. ⌜ Wants (now (edges .entry)) (goal .0) (stack n (now (frames .entry))) (t .0) r ⌝ }
+    ensures { λ r. ⌜ r ≡ wishOf (goal .0) (stack n (now (frames .entry))) ⌝ }
 {
     if n == 0 {
-        return t.0 == goal.0;
+        return Wish::Goal(goal);
     }
-    let top = words::NodeNo(frames[n - 1]);
-    match rows::look_up(edges, top, 1, t) {
-        rows::Found::Row(_) => true,
-        rows::Found::Nothing => false,
+    Wish::Frame(words::NodeNo(frames[n - 1]))
+}
+
+fn wanted(edges: &[u32], wish: Wish, t: words::SymbolNo) -> bool
+    ensures { λ r. ⌜ Wants (now (edges .entry)) wish (t .0) r ⌝ }
+{
+    match wish {
+        Wish::Goal(goal) => t.0 == goal.0,
+        Wish::Frame(top) => match rows::look_up(edges, top, 1, t) {
+            rows::Found::Row(_) => true,
+            rows::Found::Nothing => false,
+        },
     }
 }
 
 // Whether the rule that stands first is a conversion from `t` to a wanted typecode.
-fn converts(
-    s: &[u32],
-    edges: &[u32],
-    goal: words::SymbolNo,
-    frames: &[u32],
-    n: usize,
-    t: words::SymbolNo,
-) -> bool
-    requires { ⌜ (aRule (now s) ≡ true) × (n ≤ length (now frames)) ⌝ }
-    ensures { λ r. ⌜ Converts (now (edges .entry)) (goal .0) (stack n (now (frames .entry))) (ruleOf (now (s .entry))) (t .0) r ⌝ }
+fn converts(s: &[u32], edges: &[u32], wish: Wish, t: words::SymbolNo) -> bool
+    requires { ⌜ aRule (now s) ≡ true ⌝ }
+    ensures { λ r. ⌜ Converts (now (edges .entry)) wish (ruleOf (now (s .entry))) (t .0) r ⌝ }
 {
     let rules::Conversion::From(u) = rules::conversion_of(s) else {
         return false;
@@ -124,26 +158,19 @@ fn converts(
         return false;
     }
     let to = rules::result_of(s);
-    wanted(edges, goal, frames, n, to)
+    wanted(edges, wish, to)
 }
 
 // The first conversion in rule order from `t` to a wanted typecode.
-fn conversion(
-    rules: &[u32],
-    edges: &[u32],
-    goal: words::SymbolNo,
-    frames: &[u32],
-    n: usize,
-    t: words::SymbolNo,
-) -> Chosen
-    requires { ⌜ (someRules (now rules) ≡ true) × (n ≤ length (now frames)) ⌝ }
-    ensures { λ r. ⌜ Chooses (now (edges .entry)) (goal .0) (stack n (now (frames .entry))) (theRules (now (rules .entry))) (t .0) r ⌝ }
+fn conversion(rules: &[u32], edges: &[u32], wish: Wish, t: words::SymbolNo) -> Chosen
+    requires { ⌜ someRules (now rules) ≡ true ⌝ }
+    ensures { λ r. ⌜ Chooses (now (edges .entry)) wish (theRules (now (rules .entry))) (t .0) r ⌝ }
 {
     let mut i = 0;
     let mut k: u32 = 0;
     while i < rules.len() {
         k += 1;
-        if converts(&rules[i..], edges, goal, frames, n, t) {
+        if converts(&rules[i..], edges, wish, t) {
             return Chosen::By(words::RuleNo(k));
         }
         i += rules::size_of(&rules[i..]);
@@ -158,29 +185,25 @@ fn follow(
     rules: &[u32],
     edges: &[u32],
     row: usize,
-    s: At,
-    room: usize,
+    p: Stand,
     list: &mut [u32],
     work: &mut [u32],
 ) -> Turn
     requires { ⌜ (someRules (now rules) ≡ true) × (row < length (now edges) / rowWidth)
-        × (length (edgeOf (rowAt (now edges) row) .reduces) ≤ mostReduces) × Inside room (s .trees) (now list) (now work) ⌝ }
-    ensures { λ r. ⌜ Follows (now (rules .entry)) room (edgeOf (rowAt (now (edges .entry)) row)) s (now (list .entry)) (now (work .entry))
+        × (length (edgeOf (rowAt (now edges) row) .reduces) ≤ mostReduces) × Inside (p .room) (p .at .trees) (now list) (now work) ⌝ }
+    ensures { λ r. ⌜ Follows (now (rules .entry)) (p .room) (edgeOf (rowAt (now (edges .entry)) row)) (p .at) (now (list .entry)) (now (work .entry))
         r (now (list .exit)) (now (work .exit)) ⌝ }
 {
     let e = rows::read_row(edges, row);
+    let mut s = p.at;
     let trees = s.trees;
-    let r = formula::reduce_all(rules, room, list, work, trees, e);
+    let r = formula::reduce_all(rules, p.room, list, work, trees, e);
     match r {
         formula::Reduced::Done(reduced) => {
             let node = e.to;
-            Turn::On(At {
-                node,
-                frames: s.frames,
-                trees: reduced,
-                token: s.token,
-                last: s.last,
-            })
+            s.node = node;
+            s.trees = reduced;
+            Turn::On(s)
         }
         formula::Reduced::TooFew => Turn::Stop(Why::Misfit),
         formula::Reduced::Full => Turn::Stop(Why::NoEntry),
@@ -192,19 +215,30 @@ fn root_step(
     rules: &[u32],
     edges: &[u32],
     t: words::SymbolNo,
-    s: At,
-    room: usize,
+    p: Stand,
     list: &mut [u32],
     work: &mut [u32],
 ) -> Turn
-    requires { ⌜ Fit (now rules) (now edges) × Inside room (s .trees) (now list) (now work) ⌝ }
-    ensures { λ r. ⌜ Roots (now (rules .entry)) (now (edges .entry)) room (t .0) s (now (list .entry)) (now (work .entry))
+    requires { ⌜ Fit (now rules) (now edges) × Inside (p .room) (p .at .trees) (now list) (now work) ⌝ }
+    ensures { λ r. ⌜ Roots (now (rules .entry)) (now (edges .entry)) (p .room) (t .0) (p .at) (now (list .entry)) (now (work .entry))
         r (now (list .exit)) (now (work .exit)) ⌝ }
 {
     let rows::Found::Row(row) = rows::look_up(edges, words::NodeNo(0), 1, t) else {
-        return Turn::Stop(Why::Unparseable(s.last));
+        return Turn::Stop(Why::Unparseable(p.at.last));
     };
-    follow(rules, edges, row, s, room, list, work)
+    follow(rules, edges, row, p, list, work)
+}
+
+// The top frame is popped.
+fn under(p: Stand) -> Stand
+    requires { ⌜ 1 ≤ p .at .frames ⌝ }
+    ensures { λ r. ⌜ r ≡ standAt p (under (p .at)) ⌝ }
+{
+    let mut s = p.at;
+    s.frames = s.frames - 1;
+    let mut q = p;
+    q.at = s;
+    q
 }
 
 // ---- a pass at a branch
@@ -242,34 +276,28 @@ fn branch(
     rules: &[u32],
     edges: &[u32],
     tokens: &[u32],
-    s: At,
-    room: usize,
+    p: Stand,
     frames: &mut [u32],
     list: &mut [u32],
     work: &mut [u32],
 ) -> Turn
-    requires { ⌜ Ready (now rules) (now edges) (now tokens) room s (now frames) (now list) (now work) ⌝ }
-    ensures { λ r. ⌜ Branches (now (rules .entry)) (now (edges .entry)) (now (tokens .entry)) room s
+    requires { ⌜ Ready (now rules) (now edges) (now tokens) p (now list) (now work) × Stood p (now tokens) (now frames) ⌝ }
+    ensures { λ r. ⌜ Branches (now (rules .entry)) (now (edges .entry)) (now (tokens .entry)) (p .room) (p .at)
         (now (frames .entry)) (now (list .entry)) (now (work .entry)) r (now (frames .exit)) (now (list .exit)) (now (work .exit)) ⌝ }
 {
+    let mut s = p.at;
     let i = s.token;
     if tokens.len() <= i {
         return Turn::Stop(Why::TooShort((i - 1) as u32));
     }
-    let node = s.node;
-    let rows::Found::Row(row) = rows::look_up(edges, node, 0, words::SymbolNo(tokens[i])) else {
+    let rows::Found::Row(row) = rows::look_up(edges, s.node, 0, words::SymbolNo(tokens[i])) else {
         return open_frame(edges, s, frames);
     };
-    let trees = s.trees;
-    let next = i + 1;
-    let taken = At {
-        node,
-        frames: s.frames,
-        trees,
-        token: next,
-        last: i as u32,
-    };
-    follow(rules, edges, row, taken, room, list, work)
+    s.token = i + 1;
+    s.last = i as u32;
+    let mut taken = p;
+    taken.at = s;
+    follow(rules, edges, row, taken, list, work)
 }
 
 // ---- the end of a walk
@@ -277,8 +305,8 @@ fn branch(
 // One tree must be left, and it must pass the check.
 fn finish(
     rules: &[u32],
-    goal: words::SymbolNo,
     tokens: &[u32],
+    goal: words::SymbolNo,
     trees: formula::Trees,
     list: &[u32],
     work: &mut [u32],
@@ -300,21 +328,20 @@ fn finish(
 // The conversion is reduced and the walk finishes.
 fn convert(
     rules: &[u32],
-    goal: words::SymbolNo,
     tokens: &[u32],
     rule: words::RuleNo,
-    trees: formula::Trees,
-    room: usize,
+    p: Stand,
     list: &mut [u32],
     work: &mut [u32],
 ) -> Turn
-    requires { ⌜ (someRules (now rules) ≡ true) × (1 ≤ length (now tokens)) × Inside room trees (now list) (now work) ⌝ }
-    ensures { λ r. ⌜ Closes (now (rules .entry)) (goal .0) (now (tokens .entry)) (rule .0) room trees (now (list .entry)) (now (work .entry))
+    requires { ⌜ (someRules (now rules) ≡ true) × (1 ≤ length (now tokens)) × Inside (p .room) (p .at .trees) (now list) (now work) ⌝ }
+    ensures { λ r. ⌜ Closes (now (rules .entry)) (p .goal .0) (now (tokens .entry)) (rule .0) (p .room) (p .at .trees) (now (list .entry)) (now (work .entry))
         r (now (list .exit)) (now (work .exit)) ⌝ }
 {
-    let r = formula::reduce(rules, room, list, work, trees, rule, 0);
+    let s = p.at;
+    let r = formula::reduce(rules, p.room, list, work, s.trees, rule, 0);
     match r {
-        formula::Reduced::Done(reduced) => finish(rules, goal, tokens, reduced, list, work),
+        formula::Reduced::Done(reduced) => finish(rules, tokens, p.goal, reduced, list, work),
         formula::Reduced::TooFew => Turn::Stop(Why::Misfit),
         formula::Reduced::Full => Turn::Stop(Why::NoEntry),
     }
@@ -322,153 +349,107 @@ fn convert(
 
 // ---- a pass at a leaf
 
-// `t` is not wanted. Where no token is left a conversion to a wanted typecode ends the walk, frames or not; otherwise the root step.
+// The tree is not wanted. Where no token is left a conversion to a wanted typecode ends the walk, frames or not; otherwise the root step.
 fn unwanted(
     rules: &[u32],
     edges: &[u32],
-    goal: words::SymbolNo,
     tokens: &[u32],
-    t: words::SymbolNo,
-    s: At,
-    room: usize,
-    frames: &[u32],
+    g: Grown,
     list: &mut [u32],
     work: &mut [u32],
 ) -> Turn
-    requires { ⌜ Ready (now rules) (now edges) (now tokens) room s (now frames) (now list) (now work) ⌝ }
-    ensures { λ r. ⌜ Unwanted (now (rules .entry)) (now (edges .entry)) (goal .0) (now (tokens .entry)) room s (now (frames .entry))
-        (now (list .entry)) (now (work .entry)) r (now (list .exit)) (now (work .exit)) (t .0) ⌝ }
+    requires { ⌜ Ready (now rules) (now edges) (now tokens) (g .stand) (now list) (now work) ⌝ }
+    ensures { λ r. ⌜ Unwanted (now (rules .entry)) (now (edges .entry)) (now (tokens .entry)) (g .stand) (now (list .entry)) (now (work .entry))
+        r (now (list .exit)) (now (work .exit)) (g .t .0) ⌝ }
 {
-    let i = s.token;
-    if i < tokens.len() {
-        return root_step(rules, edges, t, s, room, list, work);
+    let t = g.t;
+    let p = g.stand;
+    if p.at.token < tokens.len() {
+        return root_step(rules, edges, t, p, list, work);
     }
-    let n = s.frames;
-    let Chosen::By(rule) = conversion(rules, edges, goal, frames, n, t) else {
-        return root_step(rules, edges, t, s, room, list, work);
+    let wish = p.wish;
+    let Chosen::By(rule) = conversion(rules, edges, wish, t) else {
+        return root_step(rules, edges, t, p, list, work);
     };
-    let trees = s.trees;
-    convert(rules, goal, tokens, rule, trees, room, list, work)
-}
-
-// With a frame: where it wants `t` it is popped and its edge followed.
-fn pop_frame(
-    rules: &[u32],
-    edges: &[u32],
-    goal: words::SymbolNo,
-    tokens: &[u32],
-    t: words::SymbolNo,
-    s: At,
-    room: usize,
-    frames: &[u32],
-    list: &mut [u32],
-    work: &mut [u32],
-) -> Turn
-    requires { ⌜ Ready (now rules) (now edges) (now tokens) room s (now frames) (now list) (now work) × (1 ≤ s .frames) ⌝ }
-    ensures { λ r. ⌜ Completes (now (rules .entry)) (now (edges .entry)) (goal .0) (now (tokens .entry)) room s (now (frames .entry))
-        (now (list .entry)) (now (work .entry)) r (now (list .exit)) (now (work .exit)) (t .0) ⌝ }
-{
-    let n = s.frames;
-    let popped = words::NodeNo(frames[n - 1]);
-    let rows::Found::Row(row) = rows::look_up(edges, popped, 1, t) else {
-        return unwanted(rules, edges, goal, tokens, t, s, room, frames, list, work);
-    };
-    let node = s.node;
-    let trees = s.trees;
-    let under = At {
-        node,
-        frames: n - 1,
-        trees,
-        token: s.token,
-        last: s.last,
-    };
-    follow(rules, edges, row, under, room, list, work)
+    convert(rules, tokens, rule, p, list, work)
 }
 
 // Without a frame: the goal is wanted, and finishes the walk where no token is left.
 fn at_bottom(
     rules: &[u32],
     edges: &[u32],
-    goal: words::SymbolNo,
     tokens: &[u32],
-    t: words::SymbolNo,
-    s: At,
-    room: usize,
-    frames: &[u32],
+    g: Grown,
     list: &mut [u32],
     work: &mut [u32],
 ) -> Turn
-    requires { ⌜ Ready (now rules) (now edges) (now tokens) room s (now frames) (now list) (now work) × (s .frames ≡ 0) ⌝ }
-    ensures { λ r. ⌜ Completes (now (rules .entry)) (now (edges .entry)) (goal .0) (now (tokens .entry)) room s (now (frames .entry))
-        (now (list .entry)) (now (work .entry)) r (now (list .exit)) (now (work .exit)) (t .0) ⌝ }
+    requires { ⌜ Ready (now rules) (now edges) (now tokens) (g .stand) (now list) (now work) × Bare (g .stand .wish) ⌝ }
+    ensures { λ r. ⌜ Completes (now (rules .entry)) (now (edges .entry)) (now (tokens .entry)) (g .stand) (now (list .entry)) (now (work .entry))
+        r (now (list .exit)) (now (work .exit)) (g .t .0) ⌝ }
 {
-    if t.0 != goal.0 {
-        return unwanted(rules, edges, goal, tokens, t, s, room, frames, list, work);
+    let t = g.t;
+    let p = g.stand;
+    let s = p.at;
+    if t.0 != p.goal.0 {
+        return unwanted(rules, edges, tokens, g, list, work);
     }
     if s.token < tokens.len() {
-        return root_step(rules, edges, t, s, room, list, work);
+        return root_step(rules, edges, t, p, list, work);
     }
-    let trees = s.trees;
-    finish(rules, goal, tokens, trees, list, work)
+    finish(rules, tokens, p.goal, s.trees, list, work)
 }
 
-// A tree of typecode `t` is complete.
+// Wanted by a frame, it is popped and its edge followed.
 fn complete(
     rules: &[u32],
     edges: &[u32],
-    goal: words::SymbolNo,
     tokens: &[u32],
-    t: words::SymbolNo,
-    s: At,
-    room: usize,
-    frames: &[u32],
+    g: Grown,
     list: &mut [u32],
     work: &mut [u32],
 ) -> Turn
-    requires { ⌜ Ready (now rules) (now edges) (now tokens) room s (now frames) (now list) (now work) ⌝ }
-    ensures { λ r. ⌜ Completes (now (rules .entry)) (now (edges .entry)) (goal .0) (now (tokens .entry)) room s (now (frames .entry))
-        (now (list .entry)) (now (work .entry)) r (now (list .exit)) (now (work .exit)) (t .0) ⌝ }
+    requires { ⌜ Ready (now rules) (now edges) (now tokens) (g .stand) (now list) (now work) ⌝ }
+    ensures { λ r. ⌜ Completes (now (rules .entry)) (now (edges .entry)) (now (tokens .entry)) (g .stand) (now (list .entry)) (now (work .entry))
+        r (now (list .exit)) (now (work .exit)) (g .t .0) ⌝ }
 {
-    if s.frames == 0 {
-        return at_bottom(rules, edges, goal, tokens, t, s, room, frames, list, work);
-    }
-    pop_frame(rules, edges, goal, tokens, t, s, room, frames, list, work)
+    let p = g.stand;
+    let wish = p.wish;
+    let Wish::Frame(top) = wish else {
+        return at_bottom(rules, edges, tokens, g, list, work);
+    };
+    let rows::Found::Row(row) = rows::look_up(edges, top, 1, g.t) else {
+        return unwanted(rules, edges, tokens, g, list, work);
+    };
+    let q = under(p);
+    follow(rules, edges, row, q, list, work)
 }
 
 // The leaf's rule is reduced.
 fn leaf(
     rules: &[u32],
     edges: &[u32],
-    goal: words::SymbolNo,
     tokens: &[u32],
     rule: words::RuleNo,
-    s: At,
-    room: usize,
-    frames: &[u32],
+    p: Stand,
     list: &mut [u32],
     work: &mut [u32],
 ) -> Turn
-    requires { ⌜ Ready (now rules) (now edges) (now tokens) room s (now frames) (now list) (now work) ⌝ }
-    ensures { λ r. ⌜ Leaves (now (rules .entry)) (now (edges .entry)) (goal .0) (now (tokens .entry)) room s (now (frames .entry))
-        (now (list .entry)) (now (work .entry)) r (now (list .exit)) (now (work .exit)) (rule .0) ⌝ }
+    requires { ⌜ Ready (now rules) (now edges) (now tokens) p (now list) (now work) ⌝ }
+    ensures { λ r. ⌜ Leaves (now (rules .entry)) (now (edges .entry)) (now (tokens .entry)) p (now (list .entry)) (now (work .entry))
+        r (now (list .exit)) (now (work .exit)) (rule .0) ⌝ }
 {
     let rules::Start::At(i) = rules::find_rule(rules, rule) else {
         return Turn::Stop(Why::Misfit);
     };
     let t = rules::result_of(&rules[i..]);
-    let trees = s.trees;
-    let done = formula::reduce(rules, room, list, work, trees, rule, 0);
+    let mut s = p.at;
+    let done = formula::reduce(rules, p.room, list, work, s.trees, rule, 0);
     match done {
-        formula::Reduced::Done(grown) => {
-            let node = s.node;
-            let q = At {
-                node,
-                frames: s.frames,
-                trees: grown,
-                token: s.token,
-                last: s.last,
-            };
-            complete(rules, edges, goal, tokens, t, q, room, frames, list, work)
+        formula::Reduced::Done(trees) => {
+            s.trees = trees;
+            let mut stand = p;
+            stand.at = s;
+            complete(rules, edges, tokens, Grown { t, stand }, list, work)
         }
         formula::Reduced::TooFew => Turn::Stop(Why::Misfit),
         formula::Reduced::Full => Turn::Stop(Why::NoEntry),
@@ -477,15 +458,19 @@ fn leaf(
 
 // ---- passes
 
-// A node's word: 0 for a branch.
-fn word_of(nodes: &[u32], node: words::NodeNo) -> u32
-    ensures { λ r. ⌜ r ≡ getD (now (nodes .entry)) (node .0) 0 ⌝ }
+// A node's word is 0 for a branch, else its rule.
+fn node_at(nodes: &[u32], node: words::NodeNo) -> Node
+    ensures { λ r. ⌜ r ≡ nodeIs (getD (now (nodes .entry)) (node .0) 0) ⌝ }
 {
     let i = node.0 as usize;
     if nodes.len() <= i {
-        return 0;
+        return Node::Branch;
     }
-    nodes[i]
+    let word = nodes[i];
+    if word == 0 {
+        return Node::Branch;
+    }
+    Node::Leaf(words::RuleNo(word))
 }
 
 // One pass.
@@ -493,35 +478,20 @@ fn pass(
     rules: &[u32],
     nodes: &[u32],
     edges: &[u32],
-    goal: words::SymbolNo,
     tokens: &[u32],
-    s: At,
-    room: usize,
+    p: Stand,
     frames: &mut [u32],
     list: &mut [u32],
     work: &mut [u32],
 ) -> Turn
-    requires { ⌜ Ready (now rules) (now edges) (now tokens) room s (now frames) (now list) (now work) ⌝ }
-    ensures { λ r. ⌜ Passes (now (rules .entry)) (now (nodes .entry)) (now (edges .entry)) (goal .0) (now (tokens .entry)) room s
+    requires { ⌜ Ready (now rules) (now edges) (now tokens) p (now list) (now work) × Stood p (now tokens) (now frames) ⌝ }
+    ensures { λ r. ⌜ Passes (now (rules .entry)) (now (nodes .entry)) (now (edges .entry)) (p .goal .0) (now (tokens .entry)) (p .room) (p .at)
         (now (frames .entry)) (now (list .entry)) (now (work .entry)) r (now (frames .exit)) (now (list .exit)) (now (work .exit)) ⌝ }
 {
-    let node = s.node;
-    let word = word_of(nodes, node);
-    if word == 0 {
-        return branch(rules, edges, tokens, s, room, frames, list, work);
+    match node_at(nodes, p.at.node) {
+        Node::Branch => branch(rules, edges, tokens, p, frames, list, work),
+        Node::Leaf(rule) => leaf(rules, edges, tokens, rule, p, list, work),
     }
-    leaf(
-        rules,
-        edges,
-        goal,
-        tokens,
-        words::RuleNo(word),
-        s,
-        room,
-        frames,
-        list,
-        work,
-    )
 }
 
 // A walk starts at node 0, with its typecode taken.
@@ -553,34 +523,29 @@ fn run(
     rules: &[u32],
     nodes: &[u32],
     edges: &[u32],
-    goal: words::SymbolNo,
     tokens: &[u32],
-    allowance: u32,
-    room: usize,
+    h: Held,
     frames: &mut [u32],
     list: &mut [u32],
     work: &mut [u32],
 ) -> Walked
     requires { ⌜ Fit (now rules) (now edges) × (1 ≤ length (now tokens)) × (length (now tokens) ≤ mostTokens)
-        × Lent room (length (now list)) (length (now work)) ⌝ }
-    ensures { λ r. ⌜ Answers r (now (list .exit)) (run (pass (tables (now (rules .entry)) (now (nodes .entry)) (now (edges .entry))) (goal .0) (drop 1 (now (tokens .entry))))
-        allowance (roomOf room (now (frames .entry))) 0 (start (drop 1 (now (tokens .entry))))) ⌝ }
+        × Lent (h .room) (length (now list)) (length (now work)) ⌝ }
+    ensures { λ r. ⌜ Answers r (now (list .exit)) (run (pass (tables (now (rules .entry)) (now (nodes .entry)) (now (edges .entry))) (h .goal .0) (drop 1 (now (tokens .entry))))
+        (h .allowance) (roomOf (h .room) (now (frames .entry))) 0 (start (drop 1 (now (tokens .entry))))) ⌝ }
 {
     let mut s = start();
     let mut n: u32 = 0;
-    while n < allowance {
-        let turn = pass(
-            rules,
-            nodes,
-            edges,
+    while n < h.allowance {
+        let goal = h.goal;
+        let wish = wish_of(goal, frames, s.frames);
+        let p = Stand {
             goal,
-            tokens,
-            s,
-            room,
-            frames,
-            list,
-            work,
-        );
+            wish,
+            room: h.room,
+            at: s,
+        };
+        let turn = pass(rules, nodes, edges, tokens, p, frames, list, work);
         n += 1;
         match turn {
             Turn::On(q) => {
@@ -588,7 +553,7 @@ fn run(
             }
             Turn::End(length) => {
                 return Walked {
-                    number: 0,
+                    number: words::ACCEPTED,
                     place: 0,
                     length: length as u32,
                     passes: n,
@@ -599,53 +564,46 @@ fn run(
             }
         }
     }
-    refused(5, 0, n)
+    refused(words::NO_PASS, 0, n)
 }
 
 // ---- the walk
 
 // The typecode wanted without frames: the logic one where the provable one is stated.
-pub fn goal_of(codes: rules::Codes, stated: u32) -> words::SymbolNo
-    ensures { λ r. ⌜ r .0 ≡ wantedOf (codes .provable .0) (codes .logic .0) stated ⌝ }
+pub fn goal_of(codes: rules::Codes, stated: words::SymbolNo) -> words::SymbolNo
+    ensures { λ r. ⌜ r .0 ≡ wantedOf (codes .provable .0) (codes .logic .0) (stated .0) ⌝ }
 {
-    if stated == codes.provable.0 {
+    if stated.0 == codes.provable.0 {
         return codes.logic;
     }
-    words::SymbolNo(stated)
+    stated
 }
 
 // The walk of a statement, its typecode first. The tables have passed their checks.
 pub fn walk(
     rules: &[u32],
-    codes: rules::Codes,
     nodes: &[u32],
     edges: &[u32],
     tokens: &[u32],
-    allowance: u32,
+    terms: Terms,
     frames: &mut [u32],
     list: &mut [u32],
     work: &mut [u32],
 ) -> Walked
-    requires { ⌜ (rulesGood (codes .provable .0) (codes .logic .0) (now rules) ≡ true)
+    requires { ⌜ (rulesGood (terms .codes .provable .0) (terms .codes .logic .0) (now rules) ≡ true)
         × (tablesGood (length (theRules (now rules))) (now nodes) (now edges) ≡ true)
         × (2 ≤ length (now tokens)) × (length (now tokens) ≤ mostTokens) ⌝ }
     ensures { λ r. ⌜ Answers r (now (list .exit))
-        (walk (tables (now (rules .entry)) (now (nodes .entry)) (now (edges .entry))) (codes .provable .0) (codes .logic .0) allowance
+        (walk (tables (now (rules .entry)) (now (nodes .entry)) (now (edges .entry))) (terms .codes .provable .0) (terms .codes .logic .0) (terms .allowance)
         (roomOf (lesser (length (now (list .entry))) (length (now (work .entry)))) (now (frames .entry))) (now (tokens .entry))) ⌝ }
 {
-    let goal = goal_of(codes, tokens[0]);
+    let codes = terms.codes;
+    let goal = goal_of(codes, words::SymbolNo(tokens[0]));
     let shorter = words::lesser(list.len(), work.len());
-    let room = words::lesser(shorter, MOST_ROOM);
-    run(
-        rules,
-        nodes,
-        edges,
+    let h = Held {
         goal,
-        tokens,
-        allowance,
-        room,
-        frames,
-        list,
-        work,
-    )
+        allowance: terms.allowance,
+        room: words::lesser(shorter, MOST_ROOM),
+    };
+    run(rules, nodes, edges, tokens, h, frames, list, work)
 }

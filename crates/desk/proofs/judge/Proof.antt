@@ -1,3 +1,4 @@
+use Rattle.words.specs.Numbers.{misfit, number}
 use Rattle.words.specs.Outcome.{firstFault}
 use mathlib.Core.Path.{sym, _∙_}
 use mathlib.Core.List.{[]}
@@ -29,7 +30,7 @@ unfolding firstFault
 returns-3 c = search (tests, passed (c .before .before .before .rules-good .ensures) (c .before .before .if1 .left))
 
 returns-4 : tie.Need-returns-4
-unfolding firstFault
+unfolding firstFault number
 returns-4 c = search (tests, passed (c .before .before .before .before .rules-good .ensures) (c .before .before .before .if1 .left))
 
 -- what is known once the other demands passed
@@ -42,8 +43,8 @@ asks c = record {
   room = search needs;
 }
 
-shared-slice-read-goal-of : tie.Need-shared-slice-read-goal-of
-shared-slice-read-goal-of c = search needs
+shared-slice-read-t12 : tie.Need-shared-slice-read-t12
+shared-slice-read-t12 c = search needs
 
 goal-of-requires : tie.Need-goal-of-requires
 goal-of-requires c κs = search needs
@@ -66,10 +67,10 @@ same-length : tie.Need-same-length
 same-length c = search needs
 
 returns-5 : tie.Need-returns-5
-unfolding firstFault
+unfolding firstFault number
 returns-5 c =
     let h = asks (c .before .before .before .before .before .before .before .before) in
-    sym (decided _ _ _ _ _ _ _ _ h (c .before .before .before .before .before .before .goal-of .ensures) (c .before .before .before .check .ensures) ∙ unmet {b = c .before .before .before .check .result} (not-true _ (c .if5 .taken)) 4 [])
+    sym (decided _ _ _ _ _ _ _ _ h (c .before .before .before .before .before .before .goal-of .ensures) (c .before .before .before .check .ensures) ∙ unmet {b = c .before .before .before .check .result} (not-true _ (c .if5 .taken)) (number misfit) [])
 
 same-length-2 : tie.Need-same-length-2
 same-length-2 c = search needs
@@ -78,7 +79,7 @@ returns-6 : tie.Need-returns-6
 unfolding firstFault
 returns-6 c =
     let h = asks (c .before .before .before .before .before .before .before .before) in
-    sym (decided _ _ _ _ _ _ _ _ h (c .before .before .before .before .before .before .goal-of .ensures) (c .before .before .before .check .ensures) ∙ met {b = c .before .before .before .check .result} (not-false _ (c .if5 .left)) 4 [])
+    sym (decided _ _ _ _ _ _ _ _ h (c .before .before .before .before .before .before .goal-of .ensures) (c .before .before .before .check .ensures) ∙ met {b = c .before .before .before .check .result} (not-false _ (c .if5 .left)) (number misfit) [])
 
 pub judge-spec : {M : Type 1} → statement M
 judge-spec =
@@ -89,7 +90,7 @@ judge-spec =
     returns-2
     returns-3
     returns-4
-    shared-slice-read-goal-of
+    shared-slice-read-t12
     goal-of-requires
     sub-check
     part-check-start

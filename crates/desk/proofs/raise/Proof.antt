@@ -2,11 +2,12 @@ use mathlib.Core.Path.{_≡_, refl}
 use mathlib.Core.Bool.{true}
 use denote.Ref.{now}
 use lib.ListN.{length}
+use Rattle.words.specs.Numbers.{badRules}
 use Rattle.words.specs.laws.Tests.{failed, passed}
 use Rattle.rules.specs.Rules.{rulesGood}
 use native.Mathlib.Omega.{arith}
 use Rattle.rules.specs.laws.Words.{rules-good}
-use Rattle.desk.proofs.Laws.{raised-no, build-10, raised-on, raised-refused, room-fits, counts-small}
+use Rattle.desk.proofs.Laws.{raised-no, build-bad, raised-on, raised-refused, room-fits, counts-small}
 use borrow.Author.Needs.{needs}
 use Rattle.desk.proofs.raise.Statement.{statement}
 use Rattle.desk.proofs.raise.Tie as tie
@@ -19,7 +20,7 @@ good : (c : tie.Else1)
 good c = passed (c .before .rules-good .ensures) (c .if1 .left)
 
 returns : tie.Need-returns
-returns c = raised-no _ 10 _ _ _ _ (build-10 _ _ _ _ _ (failed (c .before .rules-good .ensures) (c .if1 .taken))) refl refl
+returns c = raised-no _ badRules _ _ _ _ (build-bad _ _ _ _ _ (failed (c .before .rules-good .ensures) (c .if1 .taken))) refl refl
 
 build-room-requires : tie.Need-build-room-requires
 build-room-requires c κs = search needs

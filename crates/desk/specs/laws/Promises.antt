@@ -14,7 +14,7 @@ use borrow.Author.Tests.{leb-true, leb-false, ltb-false, not-true, le-ltb}
 use Rattle.words.specs.Limits.{mostTokens, mostNodes, mostEdges, rowWidth}
 use Rattle.words.specs.Lent.{zeros, padded}
 use Rattle.words.specs.Outcome.{Res, ok, no, lesser, Demand, demand, firstFault}
-use Rattle.words.specs.Numbers.{Fault, collides, noNode, noEdge, sixthReduce, badCopy, faultNumber}
+use Rattle.words.specs.Numbers.{tooFewTokens, noPass, badTables, tooManyTokens, badRules, misfit, noFrame, noEntry, number, Fault, collides, noNode, noEdge, sixthReduce, badCopy, faultNumber}
 use Rattle.words.specs.laws.Tests.{lesser-le, lesser-is}
 use Rattle.words.specs.laws.Faults.{met, unmet, Clear, clear, Each, none-left, one-more, fault-is}
 use Rattle.rules.specs.Rules.{Rule, symbol, theRules, rulesGood, Stretch}
@@ -54,10 +54,10 @@ pub record Passed (q : Asked) : Type 0 where
 
 pub demands-passed : (q : Asked) → firstFault (parseDemands q) ≡ 0 → Passed q
 demands-passed q h =
-    let a = clear _ 10 _ (omega arith) h in
-    let b = clear _ 8 _ (omega arith) (a .others) in
-    let c = clear _ 1 _ (omega arith) (b .others) in
-    let d = clear _ 9 _ (omega arith) (c .others) in
+    let a = clear _ badRules _ (omega arith) h in
+    let b = clear _ badTables _ (omega arith) (a .others) in
+    let c = clear _ tooFewTokens _ (omega arith) (b .others) in
+    let d = clear _ tooManyTokens _ (omega arith) (c .others) in
     record {
       rules = a .passed;
       tables = b .passed;
@@ -77,13 +77,13 @@ module _ (q : Asked) where
   after-by P a m zero h r = h refl
   after-by P a m (suc k) h r = r λ e. omega arith
 
-  -- a refusal before the walk is 10, 8, 1 or 9
-  early : (n : ℕ) → n ≢ 10 → n ≢ 8 → n ≢ 1 → n ≢ 9 → firstFault (parseDemands q) ≢ 0 → firstFault (parseDemands q) ≢ n
+  -- a refusal before the walk is one of four
+  early : (n : ℕ) → n ≢ badRules → n ≢ badTables → n ≢ tooFewTokens → n ≢ tooManyTokens → firstFault (parseDemands q) ≢ 0 → firstFault (parseDemands q) ≢ n
   early n a b c d = fault-is (λ k. k ≢ 0 → k ≢ n) (λ z. absurd (z refl))
       (one-more (λ z e. a (sym e)) (one-more (λ z e. b (sym e)) (one-more (λ z e. c (sym e)) (one-more (λ z e. d (sym e)) none-left))))
 
   -- a fact of the walk's number, and of no refusal before it
-  number-is : (n a : ℕ) (m : passes.Room) → n ≢ 10 → n ≢ 8 → n ≢ 1 → n ≢ 9 → (Passed q → walked a m .number ≢ n) → walkOf q a m .number ≢ n
+  number-is : (n a : ℕ) (m : passes.Room) → n ≢ badRules → n ≢ badTables → n ≢ tooFewTokens → n ≢ tooManyTokens → (Passed q → walked a m .number ≢ n) → walkOf q a m .number ≢ n
   unfolding walkOf
   number-is n a m h₁ h₂ h₃ h₄ h = after-by (λ w. w .number ≢ n) a m (firstFault (parseDemands q)) (λ z. h (demands-passed q z)) (early n h₁ h₂ h₃ h₄)
 
@@ -137,9 +137,9 @@ parsed-same s s′ w w′ e = record {
 
 -- a parse did not run short
 pub record Enough (r : Parsed) : Type 0 where
-  pub passes : r .number ≢ 5
-  pub frames : r .number ≢ 6
-  pub list : r .number ≢ 7
+  pub passes : r .number ≢ noPass
+  pub frames : r .number ≢ number noFrame
+  pub list : r .number ≢ number noEntry
 
 pub more-room : (q : Asked) (a a′ : ℕ) (s s′ : Lent) → a ≤ a′ → Wider s s′ → Enough (parseGives q a s) → Same (parseGives q a′ s′) (parseGives q a s)
 unfolding parseGives parsed
@@ -169,22 +169,22 @@ module _ (q : Asked) (a : ℕ) (s : Lent) where
   abbrev answers : List ℕ → Walked
   answers ts = walk (theTables (q .rules) (q .nodes) (q .edges)) (q .provable) (q .logic) a (walkRoom s) ts
 
-  pub four-n : 4 * (length (q .tokens) - 1) ≤ a → parseGives q a s .number ≢ 5
+  pub four-n : 4 * (length (q .tokens) - 1) ≤ a → parseGives q a s .number ≢ noPass
   unfolding parseGives parsed
-  four-n h = number-is q 5 a (walkRoom s) (λ e. omega arith) (λ e. omega arith) (λ e. omega arith) (λ e. omega arith)
-      λ p. by-tokens (q .tokens) (λ ts. answers ts .number ≢ 5) (p .long)
+  four-n h = number-is q noPass a (walkRoom s) (λ e. omega arith) (λ e. omega arith) (λ e. omega arith) (λ e. omega arith)
+      λ p. by-tokens (q .tokens) (λ ts. answers ts .number ≢ noPass) (p .long)
       λ t xs e l. walk-bound _ (tables-ok (theRules (q .rules)) (q .nodes) (q .edges) (p .tables)) _ _ a (walkRoom s) t xs l (omega (arith, ap length e))
 
-  pub frames-enough : length (q .tokens) ≤ s .frames + 2 → parseGives q a s .number ≢ 6
-  unfolding parseGives parsed
-  frames-enough h = number-is q 6 a (walkRoom s) (λ e. omega arith) (λ e. omega arith) (λ e. omega arith) (λ e. omega arith)
-      λ p. by-tokens (q .tokens) (λ ts. answers ts .number ≢ 6) (p .long)
+  pub frames-enough : length (q .tokens) ≤ s .frames + 2 → parseGives q a s .number ≢ number noFrame
+  unfolding parseGives parsed number
+  frames-enough h = number-is q (number noFrame) a (walkRoom s) (λ e. omega arith) (λ e. omega arith) (λ e. omega arith) (λ e. omega arith)
+      λ p. by-tokens (q .tokens) (λ ts. answers ts .number ≢ number noFrame) (p .long)
       λ t xs e l. walk-frames _ (tables-ok (theRules (q .rules)) (q .nodes) (q .edges) (p .tables) .root) _ _ a (walkRoom s) t xs (omega (arith, ap length e))
 
-  pub list-enough : 17 * (length (q .tokens) - 1) ≤ s .list → 17 * (length (q .tokens) - 1) ≤ s .work → parseGives q a s .number ≢ 7
-  unfolding parseGives parsed
-  list-enough h k = number-is q 7 a (walkRoom s) (λ e. omega arith) (λ e. omega arith) (λ e. omega arith) (λ e. omega arith)
-      λ p. by-tokens (q .tokens) (λ ts. answers ts .number ≢ 7) (p .long)
+  pub list-enough : 17 * (length (q .tokens) - 1) ≤ s .list → 17 * (length (q .tokens) - 1) ≤ s .work → parseGives q a s .number ≢ number noEntry
+  unfolding parseGives parsed number
+  list-enough h k = number-is q (number noEntry) a (walkRoom s) (λ e. omega arith) (λ e. omega arith) (λ e. omega arith) (λ e. omega arith)
+      λ p. by-tokens (q .tokens) (λ ts. answers ts .number ≢ number noEntry) (p .long)
       λ t xs e l. walk-list _ (tables-ok (theRules (q .rules)) (q .nodes) (q .edges) (p .tables)) (tables-slim (theRules (q .rules)) (q .nodes) (q .edges) (p .tables)) _ _ a (walkRoom s) t xs (lesser-is (s .list) (s .work) (17 * length xs) (omega (arith, ap length e)) (omega (arith, ap length e)))
 
 -- ---- yes-exactly: the check alone says 0 exactly for a list that means the statement
@@ -198,12 +198,12 @@ pub record Asks (provable logic : ℕ) (rules tokens list : List ℕ) (work : �
 
 module _ (provable logic : ℕ) (rules tokens list : List ℕ) (work : ℕ) where
   pub yes-asks : verifyGives provable logic rules tokens list work .number ≡ 0 → Asks provable logic rules tokens list work
-  unfolding verifyGives
+  unfolding verifyGives number
   yes-asks h =
-      let a = clear _ 10 _ (omega arith) h in
-      let b = clear _ 1 _ (omega arith) (a .others) in
-      let c = clear _ 9 _ (omega arith) (b .others) in
-      let d = clear _ 7 _ (omega arith) (c .others) in
+      let a = clear _ badRules _ (omega arith) h in
+      let b = clear _ tooFewTokens _ (omega arith) (a .others) in
+      let c = clear _ tooManyTokens _ (omega arith) (b .others) in
+      let d = clear _ (number noEntry) _ (omega arith) (c .others) in
       record {
         good = a .passed;
         long = ltb-false _ _ (not-true _ (b .passed));
@@ -215,9 +215,10 @@ module _ (provable logic : ℕ) (rules tokens list : List ℕ) (work : ℕ) wher
   abbrev pub checked : Bool
   checked = check (theRules rules) (wantedOf provable logic (getD tokens 0 0)) (drop 1 tokens) list
 
-  pub past : Asks provable logic rules tokens list work → verifyGives provable logic rules tokens list work .number ≡ firstFault (demand checked 4 ∷ [])
+  pub past : Asks provable logic rules tokens list work → verifyGives provable logic rules tokens list work .number ≡ firstFault (demand checked (number misfit) ∷ [])
   unfolding verifyGives
-  past h = met (h .good) 10 _ ∙ met (ap not (le-ltb _ _ (h .long))) 1 _ ∙ met (ap not (le-ltb _ _ (h .short))) 9 _ ∙ met (ap not (le-ltb _ _ (h .room))) 7 _
+  past h = met (h .good) badRules _ ∙ met (ap not (le-ltb _ _ (h .long))) tooFewTokens _ ∙ met (ap not (le-ltb _ _ (h .short))) tooManyTokens _
+      ∙ met (ap not (le-ltb _ _ (h .room))) (number noEntry) _
 
 checked-means : (R : List Rule) (provable logic : ℕ) (tokens list : List ℕ) → 2 ≤ length tokens
     → (check R (wantedOf provable logic (getD tokens 0 0)) (drop 1 tokens) list ≡ true) ↔ Means R provable logic tokens list
@@ -230,11 +231,12 @@ none-fails = refl
 
 pub yes-exactly : (provable logic : ℕ) (rules tokens list : List ℕ) (work : ℕ) → Asks provable logic rules tokens list work
     → (verifyGives provable logic rules tokens list work .number ≡ 0) ↔ Means (theRules rules) provable logic tokens list
+unfolding number
 yes-exactly provable logic rules tokens list work h =
     let m = checked-means (theRules rules) provable logic tokens list (h .long) in
     let p = past provable logic rules tokens list work h in (
-      λ e. m .0 (clear _ 4 [] (omega arith) (sym p ∙ e) .passed),
-      λ t. p ∙ met (m .1 t) 4 [] ∙ none-fails,
+      λ e. m .0 (clear _ (number misfit) [] (omega arith) (sym p ∙ e) .passed),
+      λ t. p ∙ met (m .1 t) (number misfit) [] ∙ none-fails,
     )
 
 -- ---- one-meaning: two trees with one list have the same typecode and the same tokens
@@ -350,16 +352,16 @@ module _ (provable logic : ℕ) (rules : List ℕ) (nodes edges : ℕ) where
         padded-length (edgeWords (g .edges)) edges (omega (arith, edgeWords-length (g .edges), i .edges-in, lesser-le (edges / rowWidth) mostEdges .0)),
       )
 
-  after-kept : (k : ℕ) → firstFault (demand (rulesGood provable logic rules) 10 ∷ []) ≡ k → BothKept (buildAfter rules nodes edges k)
+  after-kept : (k : ℕ) → firstFault (demand (rulesGood provable logic rules) badRules ∷ []) ≡ k → BothKept (buildAfter rules nodes edges k)
   unfolding buildAfter
-  after-kept zero h = built-kept (clear _ 10 _ (omega arith) h .passed) _ refl
+  after-kept zero h = built-kept (clear _ badRules _ (omega arith) h .passed) _ refl
   after-kept (suc k) h = not-built-kept (suc k)
 
   pub lengths-kept-build : BothKept (buildGives provable logic rules nodes edges)
   unfolding buildGives
   lengths-kept-build = after-kept _ refl
 
--- ---- built-tables-pass: tables that a build answered 0 for, cut to its counts, are never 8 for a parse with the same rules
+-- ---- built-tables-pass: tables that a build answered 0 for, cut to its counts, are never bad for a parse with the same rules
 
 -- the tables of a build, cut to its counts
 abbrev pub nodesIn : Built → List ℕ
@@ -388,9 +390,9 @@ module _ (provable logic : ℕ) (rules : List ℕ) (nodes edges : ℕ) where
     take-at (edgeWords (g .edges)) (zeros (edges - length (edgeWords (g .edges)))) (rowWidth * length (g .edges)) (edgeWords-length (g .edges)),
   ) (built-tables-pass provable logic rules (buildRoom nodes edges) (lesser-le nodes mostNodes .1) (lesser-le (edges / rowWidth) mostEdges .1) r g h)
 
-  after-good : (k : ℕ) → firstFault (demand (rulesGood provable logic rules) 10 ∷ []) ≡ k → Good (buildAfter rules nodes edges k)
+  after-good : (k : ℕ) → firstFault (demand (rulesGood provable logic rules) badRules ∷ []) ≡ k → Good (buildAfter rules nodes edges k)
   unfolding buildAfter
-  after-good zero h e = built-good (clear _ 10 _ (omega arith) h .passed) _ refl e
+  after-good zero h e = built-good (clear _ badRules _ (omega arith) h .passed) _ refl e
   after-good (suc k) h e = absurd (omega arith)
 
   pub built-passes : Good (buildGives provable logic rules nodes edges)
@@ -401,25 +403,25 @@ module _ (provable logic : ℕ) (rules : List ℕ) (nodes edges : ℕ) where
 abbrev pub askedOf : ℕ → ℕ → List ℕ → Built → List ℕ → Asked
 askedOf provable logic rules b tokens = record { provable = provable; logic = logic; rules = rules; nodes = nodesIn b; edges = edgesIn b; tokens = tokens }
 
--- no walk says 8
-not-walked : (q : Asked) (a : ℕ) (m : passes.Room) → Passed q → walk (theTables (q .rules) (q .nodes) (q .edges)) (q .provable) (q .logic) a m (q .tokens) .number ≢ 8
-not-walked q a m p = by-tokens (q .tokens) (λ ts. walk (theTables (q .rules) (q .nodes) (q .edges)) (q .provable) (q .logic) a m ts .number ≢ 8) (p .long)
+-- no walk says that tables are bad
+not-walked : (q : Asked) (a : ℕ) (m : passes.Room) → Passed q → walk (theTables (q .rules) (q .nodes) (q .edges)) (q .provable) (q .logic) a m (q .tokens) .number ≢ badTables
+not-walked q a m p = by-tokens (q .tokens) (λ ts. walk (theTables (q .rules) (q .nodes) (q .edges)) (q .provable) (q .logic) a m ts .number ≢ badTables) (p .long)
     λ t xs _ _ e. omega (arith, walk-numbers (theTables (q .rules) (q .nodes) (q .edges)) (q .provable) (q .logic) a m t xs .1)
 
 -- tables that pass are not what is refused
-not-8 : (b c : Bool) (ds : List Demand) → (b ≡ true → c ≡ true) → firstFault ds ≢ 8 → firstFault (demand b 10 ∷ demand c 8 ∷ ds) ≢ 8
+not-8 : (b c : Bool) (ds : List Demand) → (b ≡ true → c ≡ true) → firstFault ds ≢ badTables → firstFault (demand b badRules ∷ demand c badTables ∷ ds) ≢ badTables
 unfolding firstFault
 not-8 true true ds h r = r
 not-8 true false ds h r = λ e. false≢true (h refl)
 not-8 false c ds h r = λ e. omega arith
 
 pub built-tables-pass-parse : (provable logic : ℕ) (rules : List ℕ) (nodes edges : ℕ) → let b = buildGives provable logic rules nodes edges in
-    b .number ≡ 0 → (tokens : List ℕ) (a : ℕ) (s : Lent) → parseGives (askedOf provable logic rules b tokens) a s .number ≢ 8
+    b .number ≡ 0 → (tokens : List ℕ) (a : ℕ) (s : Lent) → parseGives (askedOf provable logic rules b tokens) a s .number ≢ badTables
 unfolding parseGives parsed walkOf
 built-tables-pass-parse provable logic rules nodes edges e tokens a s =
     let q = askedOf provable logic rules (buildGives provable logic rules nodes edges) tokens in
-    after-by q (λ w. w .number ≢ 8) a (walkRoom s) (firstFault (parseDemands q)) (λ z. not-walked q a (walkRoom s) (demands-passed q z))
-    λ z. not-8 _ _ _ (λ r. built-passes provable logic rules nodes edges e) (fault-is (λ k. k ≢ 8) (λ e. omega arith) (one-more (λ e. omega arith) (one-more (λ e. omega arith) none-left)))
+    after-by q (λ w. w .number ≢ badTables) a (walkRoom s) (firstFault (parseDemands q)) (λ z. not-walked q a (walkRoom s) (demands-passed q z))
+    λ z. not-8 _ _ _ (λ r. built-passes provable logic rules nodes edges e) (fault-is (λ k. k ≢ badTables) (λ e. omega arith) (one-more (λ e. omega arith) (one-more (λ e. omega arith) none-left)))
 
 -- ---- collide-exactly: a build answers 11 exactly if a body equals, begins or continues an earlier placed one
 
@@ -448,5 +450,5 @@ collide-exactly provable logic rules nodes edges h n =
     let c = grow-collides (buildRoom nodes edges) (theRules rules) (bodied (theRules rules) (rules-proper provable logic rules h)) in
     let m = eleven-by nodes edges (grow (buildRoom nodes edges) (theRules rules)) in
     let z : 1 ≤ lesser nodes mostNodes = lesser-is nodes mostNodes 1 n (omega arith) in
-    let e : firstFault (demand (rulesGood provable logic rules) 10 ∷ []) ≡ 0 = met h 10 [] ∙ none-fails in
+    let e : firstFault (demand (rulesGood provable logic rules) badRules ∷ []) ≡ 0 = met h badRules [] ∙ none-fails in
     rw e (λ k. c .0 (m .0 k) .1, λ k. m .1 (c .1 (z, k)))

@@ -6,26 +6,21 @@ use Rattle.walk.proofs.at_bottom.Tie as tie
 
 returns : tie.Need-returns
 returns c =
-    let st = c .before .before .before .before .before .before .before .before .before .before .before .before .before .before .before .before in
-    let a = st .args in
-    bottom-other (now (a .rules)) (now (a .edges)) (a .goal .0) (now (a .tokens)) (a .room) (a .s) (now (a .frames)) (now (a .list)) (now (a .work)) (a .t .0)
-    (st .pre .0 .placed) (st .pre .1) (c .before .before .before .before .before .before .before .if1 .taken) (c .before .before .before .before .unwanted .ensures)
+    let a = c .before .before .before .before .before .before .before .before .before .before .before .before .before .before .before .before .before .before .args in
+    bottom-other (now (a .rules)) (now (a .edges)) (now (a .tokens)) (a .g .stand) (now (a .list)) (now (a .work)) (a .g .t .0)
+    (c .before .before .before .before .before .before .before .before .before .before .before .before .before .before .before .before .before .before .pre .1) (c .before .before .before .before .before .before .before .if1 .taken) (c .before .before .before .before .unwanted .ensures)
 
 returns-2 : tie.Need-returns-2
 returns-2 c =
-    let st = c .before .before .before .before .before .before .before .before .before .before .before .before .before .before .before .before .before .before in
-    let a = st .args in
-    bottom-token (now (a .rules)) (now (a .edges)) (a .goal .0) (now (a .tokens)) (a .room) (a .s) (now (a .frames)) (now (a .list)) (now (a .work)) (a .t .0)
-    (st .pre .0 .placed) (st .pre .1) (c .before .before .before .before .before .before .before .before .before .if1 .left)
-    (c .before .before .before .before .before .before .before .if2 .taken) (c .before .before .before .before .root-step .ensures)
+    let a = c .before .before .before .before .before .before .before .before .before .before .before .before .before .before .before .before .before .before .before .before .args in
+    bottom-token (now (a .rules)) (now (a .edges)) (now (a .tokens)) (a .g .stand) (now (a .list)) (now (a .work)) (a .g .t .0)
+    (c .before .before .before .before .before .before .before .before .before .before .before .before .before .before .before .before .before .before .before .before .pre .1) (c .before .before .before .before .before .before .before .before .before .if1 .left) (c .before .before .before .before .before .before .before .if2 .taken) (c .before .before .before .before .root-step .ensures)
 
 returns-3 : tie.Need-returns-3
 returns-3 c =
-    let st = c .before .before .before .before .before .before .before .before .before .before .before .before .before .before .before .before .before in
-    let a = st .args in
-    bottom-ends (now (a .rules)) (now (a .edges)) (a .goal .0) (now (a .tokens)) (a .room) (a .s) (now (a .frames)) (now (a .list)) (now (a .work)) (a .t .0)
-    (st .pre .1) (c .before .before .before .before .before .before .before .before .if1 .left) (c .before .before .before .before .before .before .if2 .left)
-    (c .before .before .finish .ensures)
+    let a = c .before .before .before .before .before .before .before .before .before .before .before .before .before .before .before .before .before .before .args in
+    bottom-ends (now (a .rules)) (now (a .edges)) (now (a .tokens)) (a .g .stand) (now (a .list)) (now (a .work)) (a .g .t .0)
+    (c .before .before .before .before .before .before .before .before .before .before .before .before .before .before .before .before .before .before .pre .1) (c .before .before .before .before .before .before .before .if1 .left) (c .before .before .before .before .before .if2 .left) (c .before .before .finish .ensures)
 
 pub at-bottom-spec : {M : Type 1} → statement M
 at-bottom-spec =

@@ -7,37 +7,28 @@ use Rattle.walk.proofs.branch.Tie as tie
 
 returns : tie.Need-returns
 returns c =
-    let st = c .before .before .before .before .before .before .before in
-    let a = st .args in
-    branch-ended (now (a .rules)) (now (a .edges)) (now (a .tokens)) (a .room) (a .s) (now (a .frames)) (now (a .list)) (now (a .work)) (c .if1 .taken)
+    let a = c .before .before .before .before .before .before .before .before .args in
+    branch-ended (now (a .rules)) (now (a .edges)) (now (a .tokens)) (a .p .room) (a .p .at) (now (a .frames)) (now (a .list)) (now (a .work)) (c .if1 .taken)
 
 returns-2 : tie.Need-returns-2
 returns-2 c =
-    let st = c .before .before .before .before .before .before .before .before .before .before .before .before .before .before .before .before in
-    let a = st .args in
-    branch-open (now (a .rules)) (now (a .edges)) (now (a .tokens)) (a .room) (a .s) (now (a .frames)) (now (a .list)) (now (a .work))
-    (st .pre .placed) (st .pre .inside) (c .before .before .before .before .before .before .before .before .before .if1 .left)
-    (c .before .before .before .before .before .before .look-up .ensures) (c .before .before .before .before .enum-told .given .1)
-    (c .before .before .open-frame .ensures)
+    let a = c .before .before .before .before .before .before .before .before .before .before .before .before .before .before .before .before .args in
+    branch-open (now (a .rules)) (now (a .edges)) (now (a .tokens)) (a .p .room) (a .p .at) (now (a .frames)) (now (a .list)) (now (a .work))
+    (c .before .before .before .before .before .before .before .before .before .before .before .before .before .before .before .before .pre .1 .placed) (c .before .before .before .before .before .before .before .before .before .before .before .before .before .before .before .before .pre .0 .inside) (c .before .before .before .before .before .before .before .before .if1 .left) (c .before .before .before .before .before .before .look-up .ensures) (c .before .before .before .before .enum-told .given .1) (c .before .before .open-frame .ensures)
 
 follow-requires : tie.Need-follow-requires
 follow-requires c κs =
-    let st = c .before .before .before .before .before .before .before .before .before .before .before .before .before .before .before .before in
-    let a = st .args in
-    let row = c .before .before .before .before .row .given in
-    let f = slim-row (st .pre .fit) (a .s .node .0) 0 (getD (now (a .tokens)) (a .s .token) 0) (c .before .before .before .before .before .before .look-up .ensures) (row .0 .0) (row .1) in
-    (st .pre .fit .rules, f .0, f .1, st .pre .inside)
+    let a = c .before .before .before .before .before .before .before .before .before .before .before .before .before .before .before .args in
+    let row = c .before .before .before .row .given in
+    let f = slim-row (c .before .before .before .before .before .before .before .before .before .before .before .before .before .before .before .pre .0 .fit) (a .p .at .node .0) 0 (getD (now (a .tokens)) (a .p .at .token) 0) (c .before .before .before .before .before .look-up .ensures) (row .0 .0) (row .1) in
+    (c .before .before .before .before .before .before .before .before .before .before .before .before .before .before .before .pre .0 .fit .rules, f .0, f .1, c .before .before .before .before .before .before .before .before .before .before .before .before .before .before .before .pre .0 .inside)
 
 returns-3 : tie.Need-returns-3
 returns-3 c =
-    let st = c .before .before .before .before .before .before .before .before .before .before .before .before .before .before .before .before .before .before .before .before .before in
-    let a = st .args in
-    branch-taken (now (a .rules)) (now (a .edges)) (now (a .tokens)) (a .room) (a .s) (now (a .frames)) (now (a .list)) (now (a .work))
-    (st .pre .placed) (st .pre .inside)
-    (c .before .before .before .before .before .before .before .before .before .before .before .before .before .before .if1 .left)
-    (c .before .before .before .before .before .before .before .before .before .before .before .look-up .ensures)
-    (c .before .before .before .before .before .before .before .before .before .row .given .0 .0)
-    (c .before .before .before .before .before .before .before .before .before .row .given .1) (c .before .before .before .before .follow .ensures)
+    let a = c .before .before .before .before .before .before .before .before .before .before .before .before .before .before .before .before .before .before .before .before .args in
+    let row = c .before .before .before .before .before .before .before .before .row .given in
+    branch-taken (now (a .rules)) (now (a .edges)) (now (a .tokens)) (a .p .room) (a .p .at) (now (a .frames)) (now (a .list)) (now (a .work))
+    (c .before .before .before .before .before .before .before .before .before .before .before .before .before .before .before .before .before .before .before .before .pre .1 .placed) (c .before .before .before .before .before .before .before .before .before .before .before .before .before .before .before .before .before .before .before .before .pre .0 .inside) (c .before .before .before .before .before .before .before .before .before .before .before .before .if1 .left) (c .before .before .before .before .before .before .before .before .before .before .look-up .ensures) (row .0 .0) (row .1) (c .before .before .before .before .follow .ensures)
 
 pub branch-spec : {M : Type 1} → statement M
 branch-spec =

@@ -1,34 +1,27 @@
 use borrow.Author.Needs.{needs}
 use denote.Ref.{now}
 use Rattle.rules.specs.Rules.{ruleOf}
-use Rattle.walk.specs.Code.{stack}
 use Rattle.walk.proofs.Laws.{converts-none, converts-other, converts-from}
 use Rattle.walk.proofs.converts.Statement.{statement}
 use Rattle.walk.proofs.converts.Tie as tie
 
 returns : tie.Need-returns
 returns c =
-    let st = c .before .before .before .before .before .before in
-    let a = st .args in
-    converts-none (now (a .edges)) (a .goal .0) (stack (a .n) (now (a .frames))) (ruleOf (now (a .s))) (a .t .0) (c .before .before .conversion-of .ensures)
-    (c .enum-told .given .1)
+    let a = c .before .before .before .before .before .args in
+    converts-none (now (a .edges)) (a .wish) (ruleOf (now (a .s))) (a .t .0) (c .before .before .conversion-of .ensures) (c .enum-told .given .1)
 
 returns-2 : tie.Need-returns-2
 returns-2 c =
-    let st = c .before .before .before .before .before .before .before .before .before .before in
-    let a = st .args in
-    converts-other (now (a .edges)) (a .goal .0) (stack (a .n) (now (a .frames))) (ruleOf (now (a .s))) (a .t .0)
-    (c .before .before .before .before .before .before .conversion-of .ensures)
-    (c .before .before .before .before .u .given .0 .0) (c .before .before .before .before .u .given .1) (c .if1 .taken)
+    let a = c .before .before .before .before .before .before .before .before .before .args in
+    let u = c .before .before .before .before .u .given in
+    converts-other (now (a .edges)) (a .wish) (ruleOf (now (a .s))) (a .t .0) (c .before .before .before .before .before .before .conversion-of .ensures) (u .0 .0) (u .1) (c .if1 .taken)
 
 returns-3 : tie.Need-returns-3
 returns-3 c =
-    let st = c .before .before .before .before .before .before .before .before .before .before .before .before in
-    let a = st .args in
-    converts-from (now (a .edges)) (a .goal .0) (stack (a .n) (now (a .frames))) (ruleOf (now (a .s))) (a .t .0)
-    (c .before .before .before .before .before .before .before .before .conversion-of .ensures)
-    (c .before .before .before .before .before .before .u .given .0 .0) (c .before .before .before .before .before .before .u .given .1)
-    (c .before .before .if1 .left) (c .before .result-of .result .0) (c .before .result-of .ensures) (c .wanted .ensures)
+    let a = c .before .before .before .before .before .before .before .before .before .before .before .args in
+    let u = c .before .before .before .before .before .before .u .given in
+    converts-from (now (a .edges)) (a .wish) (ruleOf (now (a .s))) (a .t .0) (c .before .before .before .before .before .before .before .before .conversion-of .ensures) (u .0 .0) (u .1) (c .before .before .if1 .left)
+    (c .before .result-of .result .0) (c .before .result-of .ensures) (c .wanted .ensures)
 
 pub converts-spec : {M : Type 1} → statement M
 converts-spec =

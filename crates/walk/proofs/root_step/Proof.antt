@@ -6,26 +6,21 @@ use Rattle.walk.proofs.root_step.Tie as tie
 
 returns : tie.Need-returns
 returns c =
-    let st = c .before .before .before .before .before .before .before in
-    let a = st .args in
-    root-none (now (a .rules)) (now (a .edges)) (a .room) (a .t .0) (a .s) (now (a .list)) (now (a .work)) (c .before .before .look-up .ensures)
-    (c .enum-told .given .1)
+    let a = c .before .before .before .before .before .before .before .args in
+    root-none (now (a .rules)) (now (a .edges)) (a .p .room) (a .t .0) (a .p .at) (now (a .list)) (now (a .work)) (c .before .before .look-up .ensures) (c .enum-told .given .1)
 
 follow-requires : tie.Need-follow-requires
 follow-requires c κs =
-    let st = c .before .before .before .before .before .before .before .before .before .before in
     let row = c .before .before .before .row .given in
-    let f = slim-row (st .pre .0) 0 1 (st .args .t .0) (c .before .before .before .before .before .look-up .ensures) (row .0 .0) (row .1) in
-    (st .pre .0 .rules, f .0, f .1, st .pre .1)
+    let f = slim-row (c .before .before .before .before .before .before .before .before .before .before .pre .0) 0 1 (c .before .before .before .before .before .before .before .before .before .before .args .t .0) (c .before .before .before .before .before .look-up .ensures) (row .0 .0) (row .1) in
+    (c .before .before .before .before .before .before .before .before .before .before .pre .0 .rules, f .0, f .1, c .before .before .before .before .before .before .before .before .before .before .pre .1)
 
 returns-2 : tie.Need-returns-2
 returns-2 c =
-    let st = c .before .before .before .before .before .before .before .before .before .before .before .before .before .before .before in
-    let a = st .args in
-    root-row (now (a .rules)) (now (a .edges)) (a .room) (a .t .0) (a .s) (now (a .list)) (now (a .work))
-    (c .before .before .before .before .before .before .before .before .before .before .look-up .ensures)
-    (c .before .before .before .before .before .before .before .before .row .given .0 .0)
-    (c .before .before .before .before .before .before .before .before .row .given .1) (c .before .before .before .before .follow .ensures)
+    let a = c .before .before .before .before .before .before .before .before .before .before .before .before .before .before .before .args in
+    let row = c .before .before .before .before .before .before .before .before .row .given in
+    root-row (now (a .rules)) (now (a .edges)) (a .p .room) (a .t .0) (a .p .at) (now (a .list)) (now (a .work)) (c .before .before .before .before .before .before .before .before .before .before .look-up .ensures) (row .0 .0) (row .1)
+    (c .before .before .before .before .follow .ensures)
 
 pub root-step-spec : {M : Type 1} → statement M
 root-step-spec =

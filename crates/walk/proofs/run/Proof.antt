@@ -4,87 +4,79 @@ use native.Mathlib.Omega.{arith}
 use borrow.Author.Needs.{needs}
 use denote.Ref.{now}
 use lib.ListN.{length}
-use Rattle.walk.proofs.Passes.{Walking, ready-start, walking-start, walking-on, end-fits, walking-end, walking-stop, walking-out}
+use Rattle.walk.proofs.Passes.{Walking, going-start, going-ready, walking-start, walking-on, end-fits, walking-end, walking-stop, walking-out}
 use Rattle.walk.proofs.run.Statement.{statement}
 use Rattle.walk.proofs.run.Tie as tie
 
 abbrev Inv-loop : tie.InvT-loop
-Inv-loop rules nodes edges goal tokens allowance room frames₀ list₀ work₀ s₀ n₀ frames list work s n =
-    (length list ≡ length list₀) × (length work ≡ length work₀)
-    × Walking rules nodes edges (goal .0) tokens allowance room frames₀ s n frames list work
+Inv-loop rules nodes edges tokens h frames₀ list₀ work₀ s₀ n₀ frames list work s n =
+    (length list ≡ length list₀) × (length work ≡ length work₀) × Walking rules nodes edges tokens h frames₀ s n frames list work
 
 abbrev μ-loop : tie.MeasureT-loop
-μ-loop rules nodes edges goal tokens allowance room frames₀ list₀ work₀ s₀ n₀ frames list work s n = allowance - n
+μ-loop rules nodes edges tokens h frames₀ list₀ work₀ s₀ n₀ frames list work s n = h .allowance - n
 
 loop-holds : tie.Need-loop-holds Inv-loop μ-loop
 loop-holds c =
-    let st = c .before .before .before .before .before .before .before .before in
-    let a = st .args in
-    let p = st .pre in (
+    let a = c .before .before .before .before .before .before .before .before .args in
+    let p = c .before .before .before .before .before .before .before .before .pre in (
       refl,
       refl,
       rw (c .start .ensures)
-          (walking-start (now (a .rules)) (now (a .nodes)) (now (a .edges)) (a .goal .0) (now (a .tokens)) (a .allowance) (a .room) (now (a .frames))
-          (now (a .list)) (now (a .work)) (ready-start (now (a .tokens)) (now (a .frames)) (now (a .list)) (now (a .work)) (p .0) (p .1) (p .2) (p .3))),
+          (walking-start (now (a .rules)) (now (a .nodes)) (now (a .edges)) (now (a .tokens)) (a .h) (now (a .frames)) (now (a .list)) (now (a .work))
+          (going-start (now (a .tokens)) (now (a .frames)) (now (a .list)) (now (a .work)) (p .0) (p .1) (p .2) (p .3))),
     )
+
+wish-of-requires : tie.Need-wish-of-requires Inv-loop μ-loop
+wish-of-requires c κs =
+    c .before .before .before .before .loop .inv .2 .going .placed .frames
+
+pass-requires : tie.Need-pass-requires Inv-loop μ-loop
+pass-requires c κs =
+    let h = c .before .before .before .before .before .before .before .before .before .before .before .before .before .before .before .before .before .args .h in
+    let l = c .before .before .before .before .before .before .before .before .loop in
+    going-ready (h .goal) (h .room) (l .s) (l .inv .2 .going) (c .before .before .before .wish-of .result) (c .before .before .before .wish-of .ensures)
 
 loop-again : tie.Need-loop-again Inv-loop μ-loop
 loop-again c =
-    let st = c .before .before .before .before .before .before .before .before .before .before .before .before .before .before .before .before .before .before .before .before .before .before .before in
-    let a = st .args in
-    let l = c .before .before .before .before .before .before .before .before .before .before .before .before .before .before .loop in
+    let a = c .before .before .before .before .before .before .before .before .before .before .before .before .before .before .before .before .before .before .before .before .before .before .before .before .before .before .before .args in
+    let l = c .before .before .before .before .before .before .before .before .before .before .before .before .before .before .before .before .before .before .loop in
     let w = c .before .before .before .before .before .before .before .before .before .pass in (
-      w .kept .1 .1 .1 .1 .1 .1 .1 .1 .0 ∙ l .inv .0,
-      w .kept .1 .1 .1 .1 .1 .1 .1 .1 .1 .0 ∙ l .inv .1,
-      walking-on (now (a .rules)) (now (a .nodes)) (now (a .edges)) (a .goal .0) (now (a .tokens)) (a .allowance) (a .room) (now (a .frames)) (l .s) (l .n)
-          (l .frames) (l .list) (l .work) (l .inv .2)
-          (c .before .before .before .before .before .before .before .before .before .before .before .before .before .loop-test .taken) (w .ensures)
-          (c .before .turn .given .0 .0) (c .before .turn .given .1)
-          (w .kept .1 .1 .1 .1 .1 .1 .1 .0),
+      w .kept .1 .1 .1 .1 .1 .1 .0 ∙ l .inv .0,
+      w .kept .1 .1 .1 .1 .1 .1 .1 .0 ∙ l .inv .1,
+      walking-on (now (a .rules)) (now (a .nodes)) (now (a .edges)) (now (a .tokens)) (a .h) (now (a .frames)) (l .s) (l .n) (l .frames) (l .list) (l .work)
+          (l .inv .2) (c .before .before .before .before .before .before .before .before .before .before .before .before .before .before .before .before .if1 .taken) (w .ensures) (c .before .turn .given .0 .0) (c .before .turn .given .1) (w .kept .1 .1 .1 .1 .1 .0),
     )
 
-cast : tie.Need-cast-t24 Inv-loop μ-loop
-cast c =
-    let st = c .before .before .before .before .before .before .before .before .before .before .before .before .before .before .before .before .before .before .before .before .before .before .before in
-    let a = st .args in
-    let l = c .before .before .before .before .before .before .before .before .before .before .before .before .before .before .loop in
-    let f = end-fits (now (a .rules)) (now (a .nodes)) (now (a .edges)) (a .goal .0) (now (a .tokens)) (a .allowance) (a .room) (now (a .frames)) (l .s) (l .n)
-    (l .frames) (l .list) (l .work) (l .inv .2)
-    (c .before .before .before .before .before .before .before .before .before .before .before .before .before .loop-test .taken)
-    (c .before .before .before .before .before .before .before .before .before .pass .ensures) (c .before .turn2 .given .0 .0) (c .before .turn2 .given .1) in
+cast-t27 : tie.Need-cast-t27 Inv-loop μ-loop
+cast-t27 c =
+    let a = c .before .before .before .before .before .before .before .before .before .before .before .before .before .before .before .before .before .before .before .before .before .before .before .before .before .before .before .args in
+    let l = c .before .before .before .before .before .before .before .before .before .before .before .before .before .before .before .before .before .before .loop in
+    let f = end-fits (now (a .rules)) (now (a .nodes)) (now (a .edges)) (now (a .tokens)) (a .h) (now (a .frames)) (l .s) (l .n) (l .frames) (l .list) (l .work)
+    (l .inv .2) (c .before .before .before .before .before .before .before .before .before .before .before .before .before .before .before .before .if1 .taken) (c .before .before .before .before .before .before .before .before .before .pass .ensures) (c .before .turn2 .given .0 .0) (c .before .turn2 .given .1) in
     omega (arith, f)
 
 returns : tie.Need-returns Inv-loop μ-loop
 returns c =
-    let st = c .before .before .before .before .before .before .before .before .before .before .before .before .before .before .before .before .before .before .before .before .before .before .before in
-    let a = st .args in
-    let l = c .before .before .before .before .before .before .before .before .before .before .before .before .before .before .loop in
-    walking-end (now (a .rules)) (now (a .nodes)) (now (a .edges)) (a .goal .0) (now (a .tokens)) (a .allowance) (a .room) (now (a .frames)) (l .s) (l .n)
-    (l .frames) (l .list) (l .work) (l .inv .2)
-    (c .before .before .before .before .before .before .before .before .before .before .before .before .before .loop-test .taken)
-    (c .before .before .before .before .before .before .before .before .before .pass .ensures) (c .before .turn2 .given .0 .0) (c .before .turn2 .given .1)
+    let a = c .before .before .before .before .before .before .before .before .before .before .before .before .before .before .before .before .before .before .before .before .before .before .before .before .before .before .before .args in
+    let l = c .before .before .before .before .before .before .before .before .before .before .before .before .before .before .before .before .before .before .loop in
+    walking-end (now (a .rules)) (now (a .nodes)) (now (a .edges)) (now (a .tokens)) (a .h) (now (a .frames)) (l .s) (l .n) (l .frames) (l .list) (l .work)
+    (l .inv .2) (c .before .before .before .before .before .before .before .before .before .before .before .before .before .before .before .before .if1 .taken) (c .before .before .before .before .before .before .before .before .before .pass .ensures) (c .before .turn2 .given .0 .0) (c .before .turn2 .given .1)
 
 returns-2 : tie.Need-returns-2 Inv-loop μ-loop
 returns-2 c =
-    let st = c .before .before .before .before .before .before .before .before .before .before .before .before .before .before .before .before .before .before .before .before .before .before .before .before .before .before in
-    let a = st .args in
-    let l = c .before .before .before .before .before .before .before .before .before .before .before .before .before .before .before .before .before .loop in
+    let a = c .before .before .before .before .before .before .before .before .before .before .before .before .before .before .before .before .before .before .before .before .before .before .before .before .before .before .before .before .before .before .args in
+    let l = c .before .before .before .before .before .before .before .before .before .before .before .before .before .before .before .before .before .before .before .before .before .loop in
     rw (c .refused .ensures)
-    (walking-stop (now (a .rules)) (now (a .nodes)) (now (a .edges)) (a .goal .0) (now (a .tokens)) (a .allowance) (a .room) (now (a .frames)) (l .s) (l .n)
-    (l .frames) (l .list) (l .work) (l .inv .2)
-    (c .before .before .before .before .before .before .before .before .before .before .before .before .before .before .before .before .loop-test .taken)
-    (c .before .before .before .before .before .before .before .before .before .before .before .before .pass .ensures)
-    (c .before .before .before .before .turn3 .given .0 .0) (c .before .before .before .before .turn3 .given .1)
-    (c .before .before .number .result) (c .before .place .result) (c .before .before .number .ensures) (c .before .place .ensures))
+    (walking-stop (now (a .rules)) (now (a .nodes)) (now (a .edges)) (now (a .tokens)) (a .h) (now (a .frames)) (l .s) (l .n) (l .frames) (l .list) (l .work)
+    (l .inv .2) (c .before .before .before .before .before .before .before .before .before .before .before .before .before .before .before .before .before .before .before .if1 .taken) (c .before .before .before .before .before .before .before .before .before .before .before .before .pass .ensures) (c .before .before .before .before .turn3 .given .0 .0) (c .before .before .before .before .turn3 .given .1) (c .before .before .number .result) (c .before .place .result) (c .before .before .number .ensures) (c .before .place .ensures))
 
 returns-3 : tie.Need-returns-3 Inv-loop μ-loop
 returns-3 c =
-    let st = c .before .before .before .before .before .before .before .before .before .before .before in
-    let a = st .args in
-    let l = c .before .before .loop in
+    let a = c .before .before .before .before .before .before .before .before .before .before .before .before .args in
+    let l = c .before .before .before .loop in
     rw (c .refused2 .ensures)
-    (walking-out (now (a .rules)) (now (a .nodes)) (now (a .edges)) (a .goal .0) (now (a .tokens)) (a .allowance) (a .room) (now (a .frames)) (l .s) (l .n)
-    (l .frames) (l .list) (l .work) (l .inv .2) (c .before .loop-test .left))
+    (walking-out (now (a .rules)) (now (a .nodes)) (now (a .edges)) (now (a .tokens)) (a .h) (now (a .frames)) (l .s) (l .n) (l .frames) (l .list) (l .work)
+    (l .inv .2) (c .before .if1 .left))
 
 pub run-spec : {M : Type 1} → statement M
 run-spec =
@@ -94,13 +86,14 @@ run-spec =
     μ-loop
     (λ c κs. search needs)
     loop-holds
-    (λ c κs. c .before .before .before .before .loop .inv .2 .ready)
+    wish-of-requires
+    pass-requires
     (λ c. search needs)
     (λ c. search needs)
     (λ c. search needs)
     loop-again
     (λ c. search needs)
-    cast
+    cast-t27
     (λ c. search needs)
     (λ c. search needs)
     (λ c. search needs)

@@ -6,29 +6,21 @@ use Rattle.walk.proofs.unwanted.Tie as tie
 
 returns : tie.Need-returns
 returns c =
-    let st = c .before .before .before .before .before .before .before .before .before .before .before .before .before .before in
-    let a = st .args in
-    unwanted-token (now (a .rules)) (now (a .edges)) (a .goal .0) (now (a .tokens)) (a .room) (a .s) (now (a .frames)) (now (a .list)) (now (a .work)) (a .t .0)
-    (st .pre .placed) (c .before .before .before .before .before .before .before .if1 .taken) (c .before .before .before .before .root-step .ensures)
+    let a = c .before .before .before .before .before .before .before .before .before .before .before .before .before .before .before .before .args in
+    unwanted-token (now (a .rules)) (now (a .edges)) (now (a .tokens)) (a .g .stand) (now (a .list)) (now (a .work)) (a .g .t .0)
+    (c .before .before .before .before .before .before .before .if1 .taken) (c .before .before .before .before .root-step .ensures)
 
 returns-2 : tie.Need-returns-2
 returns-2 c =
-    let st = c .before .before .before .before .before .before .before .before .before .before .before .before .before .before .before .before .before in
-    let a = st .args in
-    unwanted-none (now (a .rules)) (now (a .edges)) (a .goal .0) (now (a .tokens)) (a .room) (a .s) (now (a .frames)) (now (a .list)) (now (a .work)) (a .t .0)
-    (st .pre .placed) (c .before .before .before .before .before .before .before .before .before .before .if1 .left)
-    (c .before .before .before .before .before .before .before .before .before .conversion .ensures)
-    (c .before .before .before .before .before .before .before .enum-told .given .1) (c .before .before .before .before .root-step2 .ensures)
+    let a = c .before .before .before .before .before .before .before .before .before .before .before .before .before .before .before .before .before .before .before .args in
+    unwanted-none (now (a .rules)) (now (a .edges)) (now (a .tokens)) (a .g .stand) (now (a .list)) (now (a .work)) (a .g .t .0)
+    (c .before .before .before .before .before .before .before .before .before .before .if1 .left) (c .before .before .before .before .before .before .before .before .before .conversion .ensures) (c .before .before .before .before .before .before .before .enum-told .given .1) (c .before .before .before .before .root-step2 .ensures)
 
 returns-3 : tie.Need-returns-3
 returns-3 c =
-    let st = c .before .before .before .before .before .before .before .before .before .before .before .before .before .before .before .before .before .before .before in
-    let a = st .args in
-    unwanted-by (now (a .rules)) (now (a .edges)) (a .goal .0) (now (a .tokens)) (a .room) (a .s) (now (a .frames)) (now (a .list)) (now (a .work)) (a .t .0)
-    (st .pre .placed) (c .before .before .before .before .before .before .before .before .before .before .before .before .if1 .left)
-    (c .before .before .before .before .before .before .before .before .before .before .before .conversion .ensures)
-    (c .before .before .before .before .before .before .before .before .before .rule .given .0 .0)
-    (c .before .before .before .before .before .before .before .before .before .rule .given .1) (c .before .before .before .before .convert .ensures)
+    let a = c .before .before .before .before .before .before .before .before .before .before .before .before .before .before .before .before .before .before .before .before .args in
+    unwanted-by (now (a .rules)) (now (a .edges)) (now (a .tokens)) (a .g .stand) (now (a .list)) (now (a .work)) (a .g .t .0)
+    (c .before .before .before .before .before .before .before .before .before .before .before .if1 .left) (c .before .before .before .before .before .before .before .before .before .before .conversion .ensures) (c .before .before .before .before .before .before .before .before .rule .given .0 .0) (c .before .before .before .before .before .before .before .before .rule .given .1) (c .before .before .before .before .convert .ensures)
 
 pub unwanted-spec : {M : Type 1} → statement M
 unwanted-spec =

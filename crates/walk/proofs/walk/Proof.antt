@@ -12,10 +12,10 @@ use Rattle.walk.proofs.walk.Tie as tie
 
 run-requires : tie.Need-run-requires
 run-requires c κs =
-    let st = c .before .before .before .before .before .before .before .before .before .before .before .before .before .before in
-    let a = st .args in
-    let p = st .pre in (
-      tables-fit (a .codes .provable .0) (a .codes .logic .0) (now (a .rules)) (now (a .nodes)) (now (a .edges)) (p .0) (p .1),
+    let a = c .before .before .before .before .before .before .before .before .before .before .before .before .before .before .before .args in
+    let q = a .terms .codes in
+    let p = c .before .before .before .before .before .before .before .before .before .before .before .before .before .before .before .pre in (
+      tables-fit (q .provable .0) (q .logic .0) (now (a .rules)) (now (a .nodes)) (now (a .edges)) (p .0) (p .1),
       omega (arith, p .2),
       p .3,
       room-lent (length (now (a .list))) (length (now (a .work))) (c .before .before .before .lesser2 .result)
@@ -24,16 +24,12 @@ run-requires c κs =
 
 returns : tie.Need-returns
 returns c =
-    let st = c .before .before .before .before .before .before .before .before .before .before .before .before .before .before .before .before .before .before .before .before .before in
-    let a = st .args in
-    let p = st .pre in
-    walk-answers (now (a .rules)) (now (a .nodes)) (now (a .edges)) (a .codes .provable .0) (a .codes .logic .0) (a .allowance) (now (a .tokens)) (now (a .frames))
-    (p .1) (p .2) (p .3) (lesser (length (now (a .list))) (length (now (a .work))))
-    (c .before .before .before .before .before .before .before .before .before .before .lesser2 .result)
-    (c .before .before .before .before .before .before .before .before .before .before .before .before .goal-of .result .0)
-    (c .before .before .before .before .before .before .before .before .before .before .lesser2 .ensures ∙ ap (λ (n : ℕ). lesser n mostRoom) (c .before .before .before .before .before .before .before .before .before .before .before .lesser .ensures))
-    (c .before .before .before .before .before .before .before .before .before .before .before .before .goal-of .ensures)
-    (c .before .before .before .before .before .before .run .ensures)
+    let a = c .before .before .before .before .before .before .before .before .before .before .before .before .before .before .before .before .before .before .before .before .before .before .args in
+    let q = a .terms .codes in
+    let p = c .before .before .before .before .before .before .before .before .before .before .before .before .before .before .before .before .before .before .before .before .before .before .pre in
+    walk-answers (now (a .rules)) (now (a .nodes)) (now (a .edges)) (q .provable .0) (q .logic .0) (a .terms .allowance) (now (a .tokens)) (now (a .frames))
+    (p .1) (p .2) (p .3) (lesser (length (now (a .list))) (length (now (a .work)))) (c .before .before .before .before .before .before .before .before .before .before .lesser2 .result) (c .before .before .before .before .before .before .before .before .before .before .before .before .goal-of .result .0)
+    (c .before .before .before .before .before .before .before .before .before .before .lesser2 .ensures ∙ ap (λ (n : ℕ). lesser n mostRoom) (c .before .before .before .before .before .before .before .before .before .before .before .lesser .ensures)) (c .before .before .before .before .before .before .before .before .before .before .before .before .goal-of .ensures) (c .before .before .before .before .before .before .run .ensures)
 
 pub walk-spec : {M : Type 1} → statement M
 walk-spec =

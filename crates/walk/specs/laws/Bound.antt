@@ -6,7 +6,7 @@ use Prim.Native.Nat.{ℕ, zero, suc, _+_, _*_, _≤_}
 use native.Mathlib.Omega.{arith}
 use lib.ListN.{length}
 use Rattle.words.specs.Outcome.{Res}
-use Rattle.words.specs.Numbers.{Why, unparseable, tooShort, misfit, noFrame, noEntry, number}
+use Rattle.words.specs.Numbers.{noPass, Why, unparseable, tooShort, misfit, noFrame, noEntry, number}
 use Rattle.walk.specs.Walk.{Tables, Room, State, Turn, pass, Walked, refused, run, start, walk}
 use Rattle.walk.specs.laws.View.{Fair, Pass, halts, takes, pushes, pops, roots, ends}
 use Rattle.walk.specs.laws.Runs.{Kept, run-kept}
@@ -51,7 +51,7 @@ weigh-least zero w [] = omega arith
 weigh-least zero w (x ∷ xs) = omega arith
 weigh-least (suc n) w xs = omega (arith, weigh-inner (suc n) w xs λ e. omega arith)
 
-never-five : (y : Why) → number y ≢ 5
+never-five : (y : Why) → number y ≢ noPass
 unfolding number
 never-five (unparseable p) e = omega arith
 never-five (tooShort p) e = omega arith
@@ -65,12 +65,12 @@ module _ (T : Tables) where
 
   module _ (F : Fair T) (goal : ℕ) (statement : List ℕ) (m : Room) where
     abbrev Enough : Walked → Type 0
-    Enough w = w .number ≢ 5
+    Enough w = w .number ≢ noPass
 
     abbrev Allowed : ℕ → ℕ → State → Type 0
     Allowed a n s = potential s ≤ suc a
 
-    out : (n : ℕ) (s : State) → potential s ≤ 1 → Enough (refused 5 0 n)
+    out : (n : ℕ) (s : State) → potential s ≤ 1 → Enough (refused noPass 0 n)
     unfolding potential
     out n s h = absurd (omega (arith, h, weigh-least (s .node) (T .word (s .node)) (s .rest)))
 
@@ -87,11 +87,11 @@ module _ (T : Tables) where
     falls a n s i o (roots t e ts z d h) = omega (arith, weigh-branch (e .to) (T .word (e .to)) (s .rest) (F .level t e d), heavy s z)
     falls a n s i o (ends l z c h) = λ e. omega arith
 
-    run-bound : (a n : ℕ) (s : State) → potential s ≤ suc a → run (pass T goal statement) a m n s .number ≢ 5
+    run-bound : (a n : ℕ) (s : State) → potential s ≤ suc a → run (pass T goal statement) a m n s .number ≢ noPass
     run-bound a n s h = run-kept T goal statement m Enough Allowed out falls a n s h
 
 pub walk-bound : (T : Tables) → Fair T → (provable logic a : ℕ) (m : Room) (t : ℕ) (xs : List ℕ) → 1 ≤ length xs → 4 * length xs ≤ suc a
-    → walk T provable logic a m (t ∷ xs) .number ≢ 5
+    → walk T provable logic a m (t ∷ xs) .number ≢ noPass
 unfolding walk start potential weigh
 walk-bound T F provable logic a m t [] l h = absurd (omega arith)
 walk-bound T F provable logic a m t (x ∷ xs) l h = run-bound T F _ _ m a 0 _ (omega arith)

@@ -6,7 +6,7 @@ use Prim.Native.Nat.{ℕ, zero, suc, _+_, _≤_}
 use native.Mathlib.Omega.{arith}
 use lib.ListN.{length}
 use Rattle.words.specs.Outcome.{Res}
-use Rattle.words.specs.Numbers.{Why, number}
+use Rattle.words.specs.Numbers.{noPass, Why, noFrame, number}
 use Rattle.walk.specs.Walk.{Tables, Room, State, Turn, pass, Walked, refused, run, start, walk}
 use Rattle.walk.specs.laws.View.{here, noted, ended, misfits, frames, taking, closing, Pass, halts, takes, pushes, pops, roots, ends}
 use Rattle.walk.specs.laws.Runs.{Kept, run-kept}
@@ -31,9 +31,10 @@ module _ (T : Tables) (z : T .word 0 ≡ 0) (goal : ℕ) (statement : List ℕ) 
   Sparse a n s = length (s .frames) + length (s .rest) + inner (s .node) ≤ length statement
 
   abbrev Framed : Walked → Type 0
-  Framed w = w .number ≢ 6
+  Framed w = w .number ≢ number noFrame
 
-  out : (n : ℕ) (s : State) → Sparse 0 n s → Framed (refused 5 0 n)
+  out : (n : ℕ) (s : State) → Sparse 0 n s → Framed (refused noPass 0 n)
+  unfolding number
   out n s i = λ e. omega arith
 
   leaf-inner : (s : State) → T .word (s .node) ≢ 0 → 1 ≤ inner (s .node)
@@ -58,6 +59,6 @@ module _ (T : Tables) (z : T .word 0 ≡ 0) (goal : ℕ) (statement : List ℕ) 
   run-framed a s i = run-kept T goal statement m Framed Sparse out sparse a 0 s i
 
 pub walk-frames : (T : Tables) → T .word 0 ≡ 0 → (provable logic a : ℕ) (m : Room) (t : ℕ) (xs : List ℕ) → length xs ≤ suc (m .frames)
-    → walk T provable logic a m (t ∷ xs) .number ≢ 6
+    → walk T provable logic a m (t ∷ xs) .number ≢ number noFrame
 unfolding walk start inner
 walk-frames T z provable logic a m t xs h = run-framed T z _ xs m h a (start xs) (omega arith)

@@ -6,7 +6,7 @@ use Prim.Native.Nat.{ℕ, zero, suc, _+_, _*_, _≤_}
 use native.Mathlib.Omega.{arith}
 use lib.ListN.{length}
 use Rattle.words.specs.Outcome.{Res}
-use Rattle.words.specs.Numbers.{Why, number}
+use Rattle.words.specs.Numbers.{noPass, Why, noEntry, number}
 use Rattle.formula.specs.Reducing.{flat}
 use Rattle.walk.specs.Walk.{Tables, Room, State, Turn, pass, Walked, refused, run, start, wantedOf, walk}
 use Rattle.walk.specs.laws.View.{Fair, Slim, entries, here, noted, ended, misfits, frames, taking, closing, Pass, halts, takes, pushes, pops, roots, ends}
@@ -50,13 +50,14 @@ module _ (T : Tables) (F : Fair T) (S : Slim T) (goal : ℕ) (statement : List �
   -- the list is no longer than that, and a list with that room is never too short
   record Listed (w : Walked) : Type 0 where
     most : w .number ≡ 0 → length (w .list) ≤ 17 * length statement
-    never : 17 * length statement ≤ m .list → w .number ≢ 7
+    never : 17 * length statement ≤ m .list → w .number ≢ number noEntry
 
-  refusal : (k p n : ℕ) → k ≢ 0 → k ≢ 7 → Listed (refused k p n)
+  refusal : (k p n : ℕ) → k ≢ 0 → k ≢ number noEntry → Listed (refused k p n)
   refusal k p n h g = record { most = λ e. absurd (h e); never = λ r. g }
 
-  out : (n : ℕ) (s : State) → Spare 0 n s → Listed (refused 5 0 n)
-  out n s i = refusal 5 0 n (λ e. omega arith) (λ e. omega arith)
+  out : (n : ℕ) (s : State) → Spare 0 n s → Listed (refused noPass 0 n)
+  unfolding number
+  out n s i = refusal noPass 0 n (λ e. omega arith) (λ e. omega arith)
 
   heavy : (s : State) → T .word (s .node) ≢ 0 → 12 ≤ due (s .node) (T .word (s .node))
   heavy s z = due-leaf (s .node) _ (λ e. z (rw e (F .root))) z
@@ -89,5 +90,5 @@ module _ (T : Tables) (F : Fair T) (S : Slim T) (provable logic a : ℕ) (m : Ro
   pub walk-length : walk T provable logic a m (t ∷ xs) .number ≡ 0 → length (walk T provable logic a m (t ∷ xs) .list) ≤ 17 * length xs
   walk-length e = walk-listed .most e
 
-  pub walk-list : 17 * length xs ≤ m .list → walk T provable logic a m (t ∷ xs) .number ≢ 7
+  pub walk-list : 17 * length xs ≤ m .list → walk T provable logic a m (t ∷ xs) .number ≢ number noEntry
   walk-list h = walk-listed .never h

@@ -10,7 +10,7 @@ use native.Mathlib.Omega.{arith}
 use lib.Dec.{ltb}
 use borrow.Author.Tests.{ltb-true, ltb-false, lt-ltb}
 use Rattle.words.specs.Outcome.{Res, ok, no, bind, when}
-use Rattle.words.specs.Numbers.{Why, noFrame, noEntry, number}
+use Rattle.words.specs.Numbers.{noPass, Why, noFrame, noEntry, number}
 use Rattle.rules.specs.Rules.{Rule, ruleAt}
 use Rattle.rows.specs.Rows.{Reduce, Edge}
 use Rattle.formula.specs.Reducing.{Trees, reduceBy, reduce, reduceAll}
@@ -140,9 +140,9 @@ module _ (m m′ : Room) (h : More m m′) where
 
 -- the walk did not run out of what was enlarged
 pub record Enough (a a′ : ℕ) (m m′ : Room) (w : Walked) : Type 0 where
-  pub passes : a < a′ → w .number ≢ 5
-  pub frames : m .frames < m′ .frames → w .number ≢ 6
-  pub list : m .list < m′ .list → w .number ≢ 7
+  pub passes : a < a′ → w .number ≢ noPass
+  pub frames : m .frames < m′ .frames → w .number ≢ number noFrame
+  pub list : m .list < m′ .list → w .number ≢ number noEntry
 
 module _ (a a′ : ℕ) (m m′ : Room) (n : ℕ) (f f′ : State → Walked) (g : (s : State) → Enough a a′ m m′ (f s) → f′ s ≡ f s) where
   after-same : (x : Res Why Turn) → Enough a a′ m m′ (after n f x) → after n f′ x ≡ after n f x
@@ -180,9 +180,9 @@ walk-same T provable logic a a′ m m′ (t ∷ xs) h le y = run-same T _ _ m m�
 
 -- the walk did not run out of passes, frames or list
 pub record Roomy (a : Walked) : Type 0 where
-  pub passes : a .number ≢ 5
-  pub frames : a .number ≢ 6
-  pub list : a .number ≢ 7
+  pub passes : a .number ≢ noPass
+  pub frames : a .number ≢ number noFrame
+  pub list : a .number ≢ number noEntry
 
 pub walk-mono : (T : Tables) (provable logic a a′ : ℕ) (m m′ : Room) (ts : List ℕ) → More m m′ → a ≤ a′
     → Roomy (walk T provable logic a m ts) → walk T provable logic a′ m′ ts ≡ walk T provable logic a m ts

@@ -7,7 +7,7 @@ use Prim.Native.Nat.{ℕ, suc, pred, _+_, _≤_}
 use native.Mathlib.Omega.{arith}
 use lib.ListN.{length}
 use Rattle.words.specs.Outcome.{Res}
-use Rattle.words.specs.Numbers.{Why, number, place}
+use Rattle.words.specs.Numbers.{accepted, noPass, Why, number, place}
 use Rattle.formula.specs.Check.{check}
 use Rattle.formula.specs.Meaning.{Tree}
 use Rattle.formula.specs.Reducing.{Trees}
@@ -24,7 +24,7 @@ pub record Within (T : Tables) (n p : ℕ) : Type 0 where
 -- an answer after at most a passes: 0, 2 or 3 with a place, or 4 to 7
 pub data Answer (T : Tables) (goal : ℕ) (statement : List ℕ) (a : ℕ) : Walked → Type 0 where
   accepts : (l : List ℕ) (n : ℕ) → n ≤ a → check (T .rules) goal statement l ≡ true
-      → Answer T goal statement a (record { number = 0; place = 0; list = l; passes = n })
+      → Answer T goal statement a (record { number = accepted; place = 0; list = l; passes = n })
   stops : (k p n : ℕ) → n ≤ a → 2 ≤ k → k ≤ 3 → Within T (length statement) p → Answer T goal statement a (refused k p n)
   refuses : (k n : ℕ) → n ≤ a → 4 ≤ k → k ≤ 7 → Answer T goal statement a (refused k 0 n)
 
@@ -40,8 +40,8 @@ module _ (T : Tables) (goal : ℕ) (statement : List ℕ) (m : Room) (all : ℕ)
   abbrev Told : Walked → Type 0
   Told = Answer T goal statement all
 
-  out : (n : ℕ) (s : State) → Placed 0 n s → Told (refused 5 0 n)
-  out n s i = refuses 5 n (omega (arith, i .passes)) (omega arith) (omega arith)
+  out : (n : ℕ) (s : State) → Placed 0 n s → Told (refused noPass 0 n)
+  out n s i = refuses noPass n (omega (arith, i .passes)) (omega arith) (omega arith)
 
   -- a leaf takes no token
   stays : (a n : ℕ) (s : State) (k : ℕ) (fs : List ℕ) (ts : Trees) → Placed (suc a) n s → T .word (s .node) ≢ 0

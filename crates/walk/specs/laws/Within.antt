@@ -4,7 +4,7 @@ use Prim.Native.Nat.{ℕ, suc, _≤_}
 use native.Mathlib.Omega.{arith}
 use lib.ListN.{length}
 use Rattle.words.specs.Outcome.{Res}
-use Rattle.words.specs.Numbers.{Why}
+use Rattle.words.specs.Numbers.{noPass, Why}
 use Rattle.formula.specs.Reducing.{flat}
 use Rattle.walk.specs.Walk.{Tables, Room, State, Turn, Walked, refused, start, wantedOf, walk}
 use Rattle.walk.specs.laws.View.{entries, Pass, halts, takes, pushes, pops, roots, ends}
@@ -17,7 +17,7 @@ module _ (T : Tables) (goal : ℕ) (statement : List ℕ) (m : Room) where
   abbrev Fits : Walked → Type 0
   Fits w = length (w .list) ≤ m .list
 
-  out : (n : ℕ) (s : State) → Held 0 n s → Fits (refused 5 0 n)
+  out : (n : ℕ) (s : State) → Held 0 n s → Fits (refused noPass 0 n)
   out n s i = omega arith
 
   fits : (a n : ℕ) (s : State) → Held (suc a) n s → (o : Res Why Turn) → Pass T goal statement m s o → Kept Fits (Held a (suc n)) (suc n) o
