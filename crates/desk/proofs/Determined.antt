@@ -1,6 +1,6 @@
 -- Two results that meet an entry point's contract coincide, every word of every slice lent for writing included.
 use mathlib.Core.Path.{_≡_}
-use denote.Ref.{now}
+use denote.Ref.{ptr, now}
 use Rattle.rules.specs.Code.{stretchOf}
 use Rattle.desk.specs.Code.{builtIs, parsedIs, verifiedIs}
 use Rattle.desk.specs.laws.Promises.{determined}
@@ -10,8 +10,9 @@ use Rattle.desk.proofs.build.Reads as build
 use Rattle.desk.proofs.parse.Reads as parse
 use Rattle.desk.proofs.verify.Reads as verify
 
-pub body-determined : (κs : _) (args : _) (r₁ r₂ : _) (x₁ x₂ : _) → body.Post κs args r₁ x₁ → body.Post κs args r₂ x₂ → now r₁ ≡ now r₂
-body-determined κs args r₁ r₂ x₁ x₂ m n = determined m n
+pub body-determined : (κs : _) (args : _) (r₁ r₂ : _) (x₁ x₂ : _) → body.Post κs args r₁ x₁ → body.Post κs args r₂ x₂
+    → (ptr r₁ ≡ ptr r₂) × (now r₁ ≡ now r₂)
+body-determined κs args r₁ r₂ x₁ x₂ m n = (determined (m .place) (n .place), determined (m .words) (n .words))
 
 pub stretch-determined : (κs : _) (args : _) (r₁ r₂ : _) (x₁ x₂ : _) → body-stretch.Post κs args r₁ x₁ → body-stretch.Post κs args r₂ x₂
     → stretchOf r₁ ≡ stretchOf r₂

@@ -4,8 +4,7 @@ ghost use mathlib.Core.Bool.{true};
 ghost use Prim.Native.Nat.{_≤_};
 ghost use lib.ListN.{length, getD};
 ghost use Rattle.words.specs.Outcome.{firstFault};
-ghost use Rattle.rules.specs.Rules.{cut};
-ghost use Rattle.rules.specs.Code.{stretchOf};
+ghost use Rattle.rules.specs.Code.{stretchOf, PartOf};
 ghost use Rattle.tree.specs.Code.{faultOf, roomOf};
 ghost use Rattle.words.specs.Numbers.{faultNumber};
 ghost use Rattle.desk.specs.Entry.{bodyGives, buildRoom, buildGives, parseDemands, walkRoom, walkOf, parseGives, verifyDemands, verifyGives};
@@ -32,7 +31,7 @@ pub struct Made {
 
 // The body pairs of rule `no`, as that stretch of the caller's rules; an empty one where the rules are bad or have no such rule.
 pub fn body(codes: rules::Codes, rules: &[u32], no: words::RuleNo) -> &[u32]
-    ensures { λ r. ⌜ now r ≡ cut (now (rules .entry)) (bodyGives (codes .provable .0) (codes .logic .0) (now (rules .entry)) (no .0)) ⌝ }
+    ensures { λ r. ⌜ PartOf (rules .entry) r (bodyGives (codes .provable .0) (codes .logic .0) (now (rules .entry)) (no .0)) ⌝ }
 {
     rules::body(rules, codes, no)
 }

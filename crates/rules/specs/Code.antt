@@ -1,14 +1,15 @@
 -- What the code's own types stand for, in the terms of the definitions.
-use Prim.Native.Nat.{ℕ, _+_, _-_, _≤_}
+use Prim.Native.Nat.{ℕ, _+_, _*_, _-_, _≤_}
 use mathlib.Core.Path.{_≡_}
 use mathlib.Core.Bool.{Bool, true}
 use mathlib.Core.List.{List}
 use mathlib.Core.Option.{Option, none, some}
 use lib.ListN.{length, drop}
+use denote.Ref.{RefT, ptr, now}
 use Rattle.words.specs.Limits.{mostRules}
 use Rattle.words.specs.Outcome.{pick}
 use Rattle.words.specs.declared.RuleNo.{RuleNo}
-use Rattle.rules.specs.Rules.{Item, con, slot, sizeOf, theRules, ruleOf, ruleAt, goodRule, goodRules, rulesGood, Stretch, noStretch, stretchFrom}
+use Rattle.rules.specs.Rules.{Item, con, slot, sizeOf, theRules, ruleOf, ruleAt, goodRule, goodRules, rulesGood, Stretch, noStretch, stretchFrom, cut}
 use Rattle.rules.specs.declared.Codes.{Codes}
 use Rattle.rules.specs.declared.First.{First}
 use Rattle.rules.specs.declared.First.the-variants.{Size, Bad}
@@ -63,3 +64,13 @@ stretchOf s = record { start = s .start; length = s .length }
 -- where the body of a rule stands: nowhere if the rules are bad or have no such rule
 abbrev pub bodyIn : Codes → List ℕ → RuleNo → Stretch
 bodyIn codes ws rule = pick (rulesGood (codes .provable .0) (codes .logic .0) ws) (stretchFrom mostRules 0 ws (rule .0)) noStretch
+
+-- ---- a stretch as a part of the slice
+
+abbrev pub wordBytes : ℕ
+wordBytes = 4
+
+-- r is that stretch of the slice s itself: its words, and they stand where they stood
+pub record PartOf (s r : RefT (List ℕ)) (x : Stretch) : Type 0 where
+  pub words : now r ≡ cut (now s) x
+  pub place : ptr r ≡ (ptr s .0, x .start * wordBytes + ptr s .1)

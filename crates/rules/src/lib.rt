@@ -6,7 +6,7 @@ ghost use Prim.Native.Nat.{_+_, _*_, _≤_, _<_};
 ghost use lib.ListN.{length, getElem?};
 ghost use Rattle.words.specs.Limits.{mostItems, mostRules};
 ghost use Rattle.rules.specs.Rules.{itemWidth, sizeOf, bodyWords, itemsOf, theRules, ruleOf, slots, source, symbol, goodItems, goodHead, equalEnds, goodRules, rulesGood, cut};
-ghost use Rattle.rules.specs.Code.{firstOf, aRule, someRules, Found, itemIs, sourceOf, stretchOf, bodyIn};
+ghost use Rattle.rules.specs.Code.{firstOf, aRule, someRules, Found, itemIs, sourceOf, stretchOf, bodyIn, PartOf};
 
 // The words of an item: its kind and its symbol.
 const ITEM_WIDTH: usize = 2;
@@ -317,7 +317,7 @@ pub fn stretch_of(rules: &[u32], codes: Codes, no: words::RuleNo) -> Stretch
 
 // The body of rule `no`, as that part of the caller's slice.
 pub fn body(rules: &[u32], codes: Codes, no: words::RuleNo) -> &[u32]
-    ensures { λ r. ⌜ now r ≡ cut (now (rules .entry)) (bodyIn codes (now (rules .entry)) no) ⌝ }
+    ensures { λ r. ⌜ PartOf (rules .entry) r (bodyIn codes (now (rules .entry)) no) ⌝ }
 {
     let at = stretch_of(rules, codes, no);
     let a = at.start as usize;

@@ -1,10 +1,11 @@
-use Prim.Native.Nat.{_≤_, _+_, _-_}
+use Prim.Native.Nat.{_≤_, _+_, _*_, _-_}
 use mathlib.Core.Path.{_≡_, subst, sym, ap}
 use native.Mathlib.Omega.{arith}
 use borrow.Author.Needs.{needs}
-use denote.Ref.{now}
+use denote.Ref.{ptr, now}
 use lib.ListN.{length}
 use Rattle.rules.specs.Rules.{Stretch, cut}
+use Rattle.rules.specs.Code.{wordBytes}
 use Rattle.rules.specs.laws.Words.{body-inside}
 use Rattle.rules.proofs.body.Statement.{statement}
 use Rattle.rules.proofs.body.Tie as tie
@@ -22,7 +23,11 @@ returns : tie.Need-returns
 returns c =
     let r = c .before .before .before .stretch-of .result in
     let e : r .start + r .length - r .start ≡ r .length = omega arith in
-    rw e (ap (λ (s : Stretch). cut (now (c .before .before .before .before .before .args .rules)) s) (c .before .before .before .stretch-of .ensures))
+    let a = c .before .before .before .before .before .args in
+    record {
+      words = rw e (ap (λ (s : Stretch). cut (now (a .rules)) s) (c .before .before .before .stretch-of .ensures));
+      place = ap (λ (s : Stretch). (ptr (a .rules) .0, s .start * wordBytes + ptr (a .rules) .1)) (c .before .before .before .stretch-of .ensures);
+    }
 
 pub body-spec : {M : Type 1} → statement M
 body-spec =
