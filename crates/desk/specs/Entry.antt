@@ -16,6 +16,9 @@ use Rattle.formula.specs.Check.{check}
 use Rattle.formula.specs.Meaning.{Tree}
 use Rattle.walk.specs.Walk.{Tables, tablesOf, Walked, wantedOf, walk, walking}
 use Rattle.walk.specs.Walk as passes
+-- `read` and `write`: what a package's bytes say, what its bytes are, and all that comes back, stand in `package`
+pub use Rattle.package.specs.Package.{Read, Written}
+unfoldable pub use Rattle.package.specs.Package.{readGives, writeGives}
 
 -- ---- `body`: where a rule's body stands; an empty stretch for bad rules, or for a number that names no rule
 

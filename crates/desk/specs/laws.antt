@@ -1,3 +1,4 @@
 pub mod Starred
 pub mod Examples
 pub mod Promises
+pub mod Packages

@@ -7,7 +7,8 @@ ghost use Rattle.words.specs.Outcome.{firstFault};
 ghost use Rattle.rules.specs.Code.{stretchOf, PartOf};
 ghost use Rattle.tree.specs.Code.{faultOf, roomOf};
 ghost use Rattle.words.specs.Numbers.{faultNumber};
-ghost use Rattle.desk.specs.Entry.{bodyGives, buildRoom, buildGives, parseDemands, walkRoom, walkOf, parseGives, verifyDemands, verifyGives};
+ghost use Rattle.package.specs.Code.{readIs, writtenIs};
+ghost use Rattle.desk.specs.Entry.{bodyGives, buildRoom, buildGives, parseDemands, walkRoom, walkOf, parseGives, verifyDemands, verifyGives, readGives, writeGives};
 ghost use Rattle.desk.specs.Code.{verifiedIs, builtIs, Raised, parsedIs, Tried, asked, lent};
 
 // What a parse or a check answers: the number, the place, the length of the list and the passes.
@@ -242,4 +243,28 @@ pub fn parse(
     words::clear(frames);
     words::clear(work);
     a
+}
+
+// ---- packages
+
+// What a package's bytes say: its typecodes, its rule words and its statements as counted words. Zeros stand after them, and after a refusal
+// zeros alone.
+pub fn read(bytes: &[u8], rules: &mut [u32], statements: &mut [u32]) -> package::Package
+    ensures { λ r. ⌜ readIs r (now (rules .exit)) (now (statements .exit))
+        ≡ readGives (now (bytes .entry)) (length (now (rules .entry))) (length (now (statements .entry))) ⌝ }
+{
+    package::read(bytes, rules, statements)
+}
+
+// The package of typecodes, rules and statements, these as counted words. Zeros stand after it, and after a refusal zeros alone.
+pub fn write(
+    codes: rules::Codes,
+    rules: &[u32],
+    statements: &[u32],
+    bytes: &mut [u8],
+) -> package::Written
+    ensures { λ r. ⌜ writtenIs r (now (bytes .exit))
+        ≡ writeGives (codes .provable .0) (codes .logic .0) (now (rules .entry)) (now (statements .entry)) (length (now (bytes .entry))) ⌝ }
+{
+    package::write(codes, rules, statements, bytes)
 }

@@ -3,7 +3,8 @@
 ghost use mathlib.Core.Path.{_≡_};
 ghost use lib.ListN.{length};
 ghost use Rattle.rules.specs.Code.{stretchOf};
-ghost use Rattle.desk.specs.Entry.{bodyGives, buildGives, parseGives, verifyGives};
+ghost use Rattle.package.specs.Code.{readIs, writtenIs};
+ghost use Rattle.desk.specs.Entry.{bodyGives, buildGives, parseGives, verifyGives, readGives, writeGives};
 ghost use Rattle.desk.specs.Code.{builtIs, parsedIs, verifiedIs, lent};
 
 fn codes_of(provable: u32, logic: u32) -> rules::Codes
@@ -99,4 +100,33 @@ pub extern "C" fn jiehkavon_parse(
         list,
         work,
     )
+}
+
+// What a package's bytes say.
+#[no_mangle]
+pub extern "C" fn jiehkavon_package_read(
+    bytes: &[u8],
+    rules: &mut [u32],
+    statements: &mut [u32],
+) -> package::Package
+    ensures { λ r. ⌜ readIs r (now (rules .exit)) (now (statements .exit))
+        ≡ readGives (now (bytes .entry)) (length (now (rules .entry))) (length (now (statements .entry))) ⌝ }
+{
+    desk::read(bytes, rules, statements)
+}
+
+// The package of typecodes, rules and statements.
+#[no_mangle]
+pub extern "C" fn jiehkavon_package_write(
+    provable: u32,
+    logic: u32,
+    rules: &[u32],
+    statements: &[u32],
+    bytes: &mut [u8],
+) -> package::Written
+    ensures { λ r. ⌜ writtenIs r (now (bytes .exit))
+        ≡ writeGives provable logic (now (rules .entry)) (now (statements .entry)) (length (now (bytes .entry))) ⌝ }
+{
+    let codes = codes_of(provable, logic);
+    desk::write(codes, rules, statements, bytes)
 }

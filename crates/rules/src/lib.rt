@@ -9,7 +9,7 @@ ghost use Rattle.rules.specs.Rules.{itemWidth, sizeOf, bodyWords, itemsO
 ghost use Rattle.rules.specs.Code.{firstOf, aRule, someRules, Found, itemIs, sourceOf, stretchOf, bodyIn, PartOf};
 
 // The words of an item: its kind and its symbol.
-const ITEM_WIDTH: usize = 2;
+pub const ITEM_WIDTH: usize = 2;
 
 // The two typecodes that come with the rules.
 pub struct Codes {

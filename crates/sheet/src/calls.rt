@@ -4,8 +4,8 @@ use crate::tables;
 
 // The tables that are built are those of the sheet.
 fn build(t: &[u32], words: &[u32]) -> bool {
-    let mut n = [0u32; show::MOST];
-    let mut e = [0u32; show::MOST];
+    let mut n = [0u32; text::MOST];
+    let mut e = [0u32; text::MOST];
     let nodes = show::lent(&mut n, tables::item(t, tables::ASKED, 0));
     let edges = show::lent(&mut e, tables::item(t, tables::ASKED, 1));
     let m = desk::build(
@@ -21,9 +21,9 @@ fn build(t: &[u32], words: &[u32]) -> bool {
 }
 
 fn parse(t: &[u32], words: &[u32]) -> bool {
-    let mut f = [0u32; show::MOST];
-    let mut l = [0u32; show::MOST];
-    let mut w = [0u32; show::MOST];
+    let mut f = [0u32; text::MOST];
+    let mut l = [0u32; text::MOST];
+    let mut w = [0u32; text::MOST];
     let frames = show::lent(&mut f, tables::item(t, tables::LENT, 1));
     let list = show::lent(&mut l, tables::item(t, tables::LENT, 2));
     let work = show::lent(&mut w, tables::item(t, tables::LENT, 3));
@@ -46,7 +46,7 @@ fn parse(t: &[u32], words: &[u32]) -> bool {
 }
 
 fn verify(t: &[u32], list: &[u32]) -> bool {
-    let mut w = [0u32; show::MOST];
+    let mut w = [0u32; text::MOST];
     let work = show::lent(&mut w, tables::item(t, tables::LENT, 3));
     let a = desk::verify(
         tables::codes(t),

@@ -4,14 +4,6 @@
 mod calls;
 mod show;
 mod tables;
-mod text;
-
-fn first(line: &[u8]) -> u8 {
-    if line.len() == 0 {
-        return b'#';
-    }
-    line[0]
-}
 
 // How many fields a line has, the first included; 0 for one that is none of ours.
 fn fields(name: u8) -> usize {
@@ -34,7 +26,7 @@ const UNREAD: u32 = 7;
 
 // A row's call, with the list or body of its second field.
 fn compare(name: u8, t: &[u32], field: &[u8]) -> u32 {
-    let mut words = [0u32; show::MOST];
+    let mut words = [0u32; text::MOST];
     if !text::read(field, &mut words) {
         return UNREAD;
     }
@@ -56,8 +48,8 @@ fn row(line: &[u8], name: u8, t: &mut [u32]) -> u32 {
 
 // Does what a line says, and tells what that has come to.
 fn take(line: &[u8], t: &mut [u32]) -> u32 {
-    let name = first(line);
-    if name == b'#' {
+    let name = text::first(line);
+    if name == text::REMARK {
         return SAID;
     }
     let good = (text::pieces(line, b'|') == fields(name))
@@ -73,24 +65,24 @@ fn take(line: &[u8], t: &mut [u32]) -> u32 {
 
 fn wrong(v: u32) {
     if v == UNREAD {
-        show::say(b" | cannot read this line");
+        text::say(b" | cannot read this line");
     }
-    show::say(b" | NOT as on the sheet\n");
+    text::say(b" | NOT as on the sheet\n");
 }
 
 fn verdict(v: u32) {
     match v {
-        SAID => show::say(b"\n"),
-        SAME => show::say(b" | as on the sheet\n"),
+        SAID => text::say(b"\n"),
+        SAME => text::say(b" | as on the sheet\n"),
         _ => wrong(v),
     }
 }
 
 fn total(rows: u32, wrong: u32) {
     io::print_decimal(1, rows as u64);
-    show::say(b" rows,");
-    show::word(wrong);
-    show::say(b" NOT as on the sheet\n");
+    text::say(b" rows,");
+    text::say_word(wrong);
+    text::say(b" NOT as on the sheet\n");
 }
 
 // Line after line, and the counts. A text has fewer lines than a word can count.
@@ -101,7 +93,7 @@ fn run(text: &[u8], t: &mut [u32]) {
     let mut i = 0;
     while i < lines {
         let line = text::piece(text, i, b'\n');
-        show::say(line);
+        text::say(line);
         let v = take(line, t);
         verdict(v);
         rows = std::num::wrapping_add_u32(rows, v & 1);
@@ -117,6 +109,6 @@ fn main() {
     let n = io::read_full(0, &mut text);
     run(&text[..n], &mut t);
     if n == 65536 {
-        show::say(b"the sheet is too long, its end is NOT read\n");
+        text::say(b"the sheet is too long, its end is NOT read\n");
     }
 }

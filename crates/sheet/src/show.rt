@@ -1,18 +1,6 @@
 // What is lent, what came back, and the comparison with the sheet.
 use crate::tables;
 
-pub fn say(s: &[u8]) {
-    io::write_all(1, s);
-}
-
-pub fn word(x: u32) {
-    say(b" ");
-    io::print_decimal(1, x as u64);
-}
-
-// The most words that a slice here has: 64 KiB.
-pub const MOST: usize = 16384;
-
 // So much of a slice as is to be lent; nothing where that is too much. What stands in it must not matter: the largest word, and one that
 // is a rule, a node and a typecode too.
 pub fn lent(s: &mut [u32], count: u32) -> &mut [u32] {
@@ -48,16 +36,16 @@ pub fn left(s: &[u32], words: &[u32]) -> bool {
     if holds(s, words) {
         return true;
     }
-    say(b" | other words in a slice");
+    text::say(b" | other words in a slice");
     false
 }
 
 // The numbers that came back, and whether they are the sheet's, which leaves out zeros at the end.
 pub fn told(t: &[u32], a: u32, b: u32, c: u32, d: u32) -> bool {
-    word(a);
-    word(b);
-    word(c);
-    word(d);
+    text::say_word(a);
+    text::say_word(b);
+    text::say_word(c);
+    text::say_word(d);
     let want = tables::held(t, tables::ANSWER);
     (tables::word_at(want, 0) == a)
         & (tables::word_at(want, 1) == b)

@@ -1,5 +1,4 @@
 // The tables that the sheet has set, in one slice, each with the count of its words before them.
-use crate::text;
 
 // Where each table starts: the typecodes; the allowance and the words lent; the numbers that a row is to give back; the rules and their
 // tree; what a row asks.

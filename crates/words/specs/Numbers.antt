@@ -1,8 +1,8 @@
 -- The numbers given back, and their places.
 use Prim.Native.Nat.{ℕ}
 
--- the numbers of an entry point itself: accepted or built; refused before a walk or a build begins; and 5, which no pass says: it is the
--- allowance's
+-- the numbers of an entry point itself: accepted, built, read or written; refused before a walk or a build begins; 5, which no pass says: it
+-- is the allowance's; and 7, for a slice lent that is too short
 abbrev pub accepted : ℕ
 accepted = 0
 
@@ -11,6 +11,9 @@ tooFewTokens = 1
 
 abbrev pub noPass : ℕ
 noPass = 5
+
+abbrev pub noRoom : ℕ
+noRoom = 7
 
 abbrev pub badTables : ℕ
 badTables = 8
@@ -34,7 +37,7 @@ number (unparseable p) = 2
 number (tooShort p) = 3
 number misfit = 4
 number noFrame = 6
-number noEntry = 7
+number noEntry = noRoom
 
 unfoldable pub place : Why → ℕ
 place (unparseable p) = p
@@ -57,6 +60,22 @@ faultNumber noNode = 12
 faultNumber noEdge = 13
 faultNumber sixthReduce = 14
 faultNumber badCopy = 16
+
+-- what is wrong with a package
+-- a record's length is cut short, under 2, or runs past the file
+abbrev pub cutShort : ℕ
+cutShort = 20
+
+abbrev pub unknownKind : ℕ
+unknownKind = 21
+
+-- a body, or counted words, of the wrong size
+abbrev pub wrongSize : ℕ
+wrongSize = 22
+
+-- records in a wrong order, none left before the end, or a byte after it
+abbrev pub wrongOrder : ℕ
+wrongOrder = 23
 
 unfoldable pub numbering : Unit {0}
 unfolding number place faultNumber

@@ -1,3 +1,4 @@
 pub mod Tests
 pub mod Parts
 pub mod Faults
+pub mod Counted

@@ -4,6 +4,8 @@ ghost use Prim.Native.Nat.{_≤_, _<_};
 ghost use lib.ListN.{length};
 ghost use Rattle.words.specs.Lent.{zeros, padded, clearedFrom, inserted};
 ghost use Rattle.words.specs.Outcome.{lesser};
+ghost use Rattle.words.specs.Counted.{listsOf};
+ghost use Rattle.words.specs.Code.{howMany};
 
 // Symbols and typecodes are 1 to this.
 pub const MOST_SYMBOL: u32 = 65535;
@@ -39,7 +41,10 @@ pub const NO_PASS: u32 = 5;
 
 pub const NO_FRAME: u32 = 6;
 
-pub const NO_ENTRY: u32 = 7;
+// A slice lent is too short.
+pub const NO_ROOM: u32 = 7;
+
+pub const NO_ENTRY: u32 = NO_ROOM;
 
 pub const BAD_TABLES: u32 = 8;
 
@@ -57,11 +62,26 @@ pub const SIXTH_REDUCE: u32 = 14;
 
 pub const BAD_COPY: u32 = 16;
 
+// The numbers that a package is refused with.
+pub const CUT_SHORT: u32 = 20;
+
+pub const UNKNOWN_KIND: u32 = 21;
+// Of a body, and of counted words whose count passes their end.
+pub const WRONG_SIZE: u32 = 22;
+
+pub const WRONG_ORDER: u32 = 23;
+
 pub struct RuleNo(pub u32);
 
 pub struct NodeNo(pub u32);
 
 pub struct SymbolNo(pub u32);
+
+// Counted words: how many lists they are, or the number of the first whose count passes the end.
+pub enum Lists {
+    Whole(usize),
+    Cut(usize),
+}
 
 // The smaller of two rooms.
 pub fn lesser(a: usize, b: usize) -> usize
@@ -92,6 +112,24 @@ pub fn clear_from(s: &mut [u32], at: usize)
     clear(&mut s[at..]);
 }
 
+// The same of bytes.
+pub fn clear_bytes(s: &mut [u8])
+    ensures { λ _. ⌜ now (s .exit) ≡ zeros (length (now (s .entry))) ⌝ }
+{
+    let mut i = 0;
+    while i < s.len() {
+        s[i] = 0;
+        i += 1;
+    }
+}
+
+pub fn clear_bytes_from(s: &mut [u8], at: usize)
+    requires { ⌜ at ≤ length (now s) ⌝ }
+    ensures { λ _. ⌜ now (s .exit) ≡ clearedFrom (now (s .entry)) at ⌝ }
+{
+    clear_bytes(&mut s[at..]);
+}
+
 // `x` before word `p` of the first `n`, which move up by one from there on.
 pub fn insert(s: &mut [u32], n: usize, p: usize, x: u32)
     requires { ⌜ (p ≤ n) × (n < length (now s)) ⌝ }
@@ -103,4 +141,22 @@ pub fn insert(s: &mut [u32], n: usize, p: usize, x: u32)
         k -= 1;
     }
     s[p] = x;
+}
+
+// The lists of counted words, counted.
+pub fn count_lists(ws: &[u32]) -> Lists
+    ensures { λ r. ⌜ r ≡ howMany 0 (listsOf (now (ws .entry))) ⌝ }
+{
+    let mut n = 0;
+    let mut at = 0;
+    while at < ws.len() {
+        let size = ws[at] as usize;
+        at += 1;
+        if ws.len() - at < size {
+            return Lists::Cut(n);
+        }
+        at += size;
+        n += 1;
+    }
+    Lists::Whole(n)
 }

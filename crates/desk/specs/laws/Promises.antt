@@ -8,7 +8,7 @@ use Prim.Native.Nat.{ℕ, zero, suc, _+_, _*_, _-_, _/_, _≤_, _<_}
 use native.Mathlib.Nat.{sub-zero}
 use native.Mathlib.Omega.{arith}
 use lib.Dec.{leb, ltb}
-use lib.ListN.{length, getD, take, drop, length-append, length-replicate}
+use lib.ListN.{length, getD, take, drop, length-replicate}
 use lib.Seq.{take-at}
 use borrow.Author.Tests.{leb-true, leb-false, ltb-false, not-true, le-ltb}
 use Rattle.words.specs.Limits.{mostTokens, mostNodes, mostEdges, rowWidth}
@@ -22,6 +22,7 @@ use Rattle.rules.specs.laws.Proper.{Proper, rules-proper}
 use Rattle.rows.specs.Rows.{Edge, edgesOf, edgeWords, find, tablesGood}
 use Rattle.rows.specs.laws.Fair.{RowOk, found, tables-fair}
 use Rattle.rows.specs.laws.Words.{edgeWords-length}
+use Rattle.package.specs.laws.Writes.{padded-length}
 use Rattle.tree.specs.Grow.{Grown, grow}
 use Rattle.tree.specs.laws.Built.{built-inv, built-tables-pass}
 use Rattle.tree.specs.laws.Collide.{Among, first, later, Collision, grow-collides}
@@ -311,9 +312,6 @@ unfolding verifyGives
 refused-zeros-verify provable logic rules tokens list work = refl
 
 -- ---- lengths-kept: each slice comes back as long as it was lent, so the list and the tables fit
-
-padded-length : (xs : List ℕ) (n : ℕ) → length xs ≤ n → length (padded xs n) ≡ n
-padded-length xs n h = length-append xs (zeros (n - length xs)) ∙ ap (λ (k : ℕ). length xs + k) (length-replicate (n - length xs) 0) ∙ omega (arith, h)
 
 pub record AsLent (s : Lent) (r : Parsed) : Type 0 where
   pub frames : length (r .frame-words) ≡ s .frames

@@ -1,7 +1,7 @@
 -- What the number of the first failing demand says.
 use mathlib.Core.Path.{_≡_, refl, sym, _∙_}
 use mathlib.Core.Bool.{Bool, true, false, false≢true}
-use mathlib.Core.List.{List, [], _∷_}
+use mathlib.Core.List.{List, [], _∷_, _++_}
 use mathlib.Core.Logic.{_≢_, _↔_}
 use Prim.Native.Nat.{ℕ, zero, suc, _≤_}
 use native.Mathlib.Omega.{arith}
@@ -45,3 +45,25 @@ pub fault-is : (P : ℕ → Type 0) → P accepted → {ds : List Demand} → Ea
 unfolding firstFault
 fault-is P z none-left = z
 fault-is P z (one-more {b} {k} {ds} h r) = fault-by P b k ds h (fault-is P z r)
+
+-- demands after others: a fault of the first ones stays, and without one the rest decide
+stays-by : (b : Bool) (k : ℕ) (ds es : List Demand) (n : ℕ) → (firstFault ds ≡ suc n → firstFault (ds ++ es) ≡ suc n)
+    → firstFault (demand b k ∷ ds) ≡ suc n → firstFault (demand b k ∷ ds ++ es) ≡ suc n
+unfolding firstFault
+stays-by true k ds es n r h = r h
+stays-by false k ds es n r h = h
+
+pub fault-stays : (ds es : List Demand) (n : ℕ) → firstFault ds ≡ suc n → firstFault (ds ++ es) ≡ suc n
+unfolding firstFault
+fault-stays [] es n h = absurd (omega arith)
+fault-stays (d ∷ ds) es n h = stays-by (d .test) (d .number) ds es n (λ h. fault-stays ds es n h) h
+
+after-by : (b : Bool) (k : ℕ) (ds es : List Demand) → 1 ≤ k → (firstFault ds ≡ 0 → firstFault (ds ++ es) ≡ firstFault es)
+    → firstFault (demand b k ∷ ds) ≡ 0 → firstFault (demand b k ∷ ds ++ es) ≡ firstFault es
+unfolding firstFault
+after-by true k ds es p r h = r h
+after-by false k ds es p r h = absurd (omega arith)
+
+pub fault-after : {ds : List Demand} → Each (λ k. 1 ≤ k) ds → (es : List Demand) → firstFault ds ≡ 0 → firstFault (ds ++ es) ≡ firstFault es
+fault-after none-left es h = refl
+fault-after (one-more {b} {k} {ds} p r) es h = after-by b k ds es p (λ h. fault-after r es h) h

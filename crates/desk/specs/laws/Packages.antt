@@ -1,0 +1,7 @@
+-- The promises about packages. They are about all that `read` and `write` give back, and are proved beside these definitions.
+
+-- a refusal leaves zeros in every slice lent for writing, and slices come back as long as they were lent; the room that is always enough
+pub use Rattle.package.specs.laws.Reads.{refused-zeros-read, lengths-kept-read, read-enough}
+pub use Rattle.package.specs.laws.Writes.{refused-zeros-write, lengths-kept-write, write-enough, write-length, write-tight}
+-- reading and writing undo one another
+pub use Rattle.package.specs.laws.Promises.{write-then-read, read-then-write}

@@ -1,0 +1,5 @@
+pub mod Numbers
+pub mod Held
+pub mod Heads
+pub mod Reading
+pub mod Writing

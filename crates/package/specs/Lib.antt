@@ -1,0 +1,4 @@
+pub mod Bytes
+pub mod Package
+pub mod Code
+pub mod laws

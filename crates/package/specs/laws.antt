@@ -1,0 +1,9 @@
+pub mod Examples
+pub mod Bytes
+pub mod Records
+pub mod Lengths
+pub mod Few
+pub mod Trips
+pub mod Writes
+pub mod Reads
+pub mod Promises

@@ -1,0 +1,30 @@
+use mathlib.Core.Path.{_≡_}
+use Prim.Native.Nat.{_-_}
+use lib.ListN.{length}
+use borrow.Author.Needs.{needs}
+use Rattle.package_main.proofs.hex.put_line.Statement.{statement}
+use Rattle.package_main.proofs.hex.put_line.Tie as tie
+
+abbrev Inv-loop : tie.InvT-loop
+Inv-loop line to₀ items end₀ i₀ to end i = length to ≡ length to₀
+
+abbrev μ-loop : tie.MeasureT-loop
+μ-loop line to₀ items end₀ i₀ to end i = items - i
+
+pub put-line-spec : {M : Type 1} → statement M
+put-line-spec =
+    tie.close
+    (tie.spec
+    Inv-loop
+    μ-loop
+    (λ c κs. search needs)
+    (λ c. search needs)
+    (λ c. search needs)
+    (λ c. search needs)
+    (λ c κs. search needs)
+    (λ c κs. search needs)
+    (λ c. search needs)
+    (λ c. search needs)
+    (λ c. search needs)
+    (λ c. search needs)
+    (λ c. search needs))
