@@ -1,7 +1,7 @@
-//! The scope paper in ordinary Rust: vectors, maps, allocation where it is convenient.
+//! The scope paper and its change requests in ordinary Rust: vectors, maps, allocation where it is convenient.
 //!
 //! It shares no code with the proved library, so that an answer on which both agree was reached twice.
-//! The modules are the paper's rooms, leaves first; [`words`] has the four entry points over slices of words, with the library's signatures.
+//! The modules are the paper's rooms, leaves first; [`words`] has the entry points over slices, with the library's signatures.
 //! [`Grammar`] is what a caller keeps who parses many statements over the same tables.
 
 mod check;
@@ -9,6 +9,7 @@ mod forest;
 mod grammar;
 mod grow;
 mod numbers;
+mod package;
 mod rows;
 mod rules;
 mod walk;
@@ -18,7 +19,8 @@ pub use check::check;
 pub use grammar::Grammar;
 pub use grow::{grow, Room, Tree};
 pub use numbers::{NodeNo, Refusal, RuleNo, Symbol};
+pub use package::{counted, Contents};
 pub use rows::{Edge, Node, Reduce, Row, Tables};
 pub use rules::{Item, Rule, Rules, Typecodes};
 pub use walk::{Rooms, Walk, Walked};
-pub use words::{body, build, parse, verify, Answer, Built, Stretch};
+pub use words::{body, build, package_read, package_write, parse, verify, Answer, Built, Package, Stretch, Written};

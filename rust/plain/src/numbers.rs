@@ -54,7 +54,7 @@ impl NodeNo {
     }
 }
 
-/// Why an entry point refused. Places count the typecode token as 0.
+/// Why an entry point refused. Places of tokens count the typecode token as 0.
 #[derive(Clone, Copy, Debug, PartialEq, Eq, Hash)]
 pub enum Refusal {
     TooFewTokens,
@@ -72,6 +72,11 @@ pub enum Refusal {
     EdgesFull,
     SixthReduce,
     BadCopy,
+    /// A package's refusals name a record, counted from 0.
+    BadLength(usize),
+    UnknownKind(usize),
+    WrongSize(usize),
+    WrongOrder(usize),
 }
 
 impl Refusal {
@@ -92,12 +97,18 @@ impl Refusal {
             Refusal::EdgesFull => 13,
             Refusal::SixthReduce => 14,
             Refusal::BadCopy => 16,
+            Refusal::BadLength(_) => 20,
+            Refusal::UnknownKind(_) => 21,
+            Refusal::WrongSize(_) => 22,
+            Refusal::WrongOrder(_) => 23,
         }
     }
 
-    pub fn place(self) -> u32 {
+    pub fn place(self) -> usize {
         match self {
-            Refusal::Unparseable(place) | Refusal::TokensEnded(place) => place as u32,
+            Refusal::Unparseable(place) | Refusal::TokensEnded(place) => place,
+            Refusal::BadLength(record) | Refusal::UnknownKind(record) => record,
+            Refusal::WrongSize(record) | Refusal::WrongOrder(record) => record,
             _ => 0,
         }
     }

@@ -1,9 +1,10 @@
-//! The four entry points: slices of words in, numbers out. Any words may stand in any slice.
+//! The entry points: slices of words in, numbers out. Any words may stand in any slice.
 
 use crate::check;
 use crate::grammar::Grammar;
 use crate::grow::{grow, Room, Tree};
 use crate::numbers::{Refusal, RuleNo, EDGE_LIMIT, NODE_LIMIT};
+use crate::package::{packed, Contents};
 use crate::rows::ROW;
 use crate::rules::Rules;
 use crate::walk::{Rooms, Walked};
@@ -21,7 +22,7 @@ impl Answer {
     fn of(result: Result<usize, Refusal>, passes: u32) -> Answer {
         let (number, place, length) = match result {
             Ok(length) => (0, 0, length as u32),
-            Err(refusal) => (refusal.number(), refusal.place(), 0),
+            Err(refusal) => (refusal.number(), refusal.place() as u32, 0),
         };
         Answer {
             number,
@@ -45,6 +46,29 @@ pub struct Built {
 pub struct Stretch {
     pub start: u32,
     pub length: u32,
+}
+
+/// What reading a package answers. All but the number and the place are 0 where it is refused.
+#[derive(Clone, Copy, Debug, Default, PartialEq, Eq, Hash)]
+pub struct Package {
+    pub number: u32,
+    pub place: usize,
+    pub provable: u32,
+    pub logic: u32,
+    /// How many words at the front of the rule slice are rules.
+    pub rules: usize,
+    pub statements: usize,
+    /// How many words at the front of the statement slice are statements.
+    pub words: usize,
+}
+
+/// What writing a package answers.
+#[derive(Clone, Copy, Debug, PartialEq, Eq, Hash)]
+pub struct Written {
+    pub number: u32,
+    pub place: usize,
+    /// How many bytes at the front of the byte slice are the package; 0 where it is refused.
+    pub length: usize,
 }
 
 /// The body of rule `rule`, as a stretch of `rules`.
@@ -129,4 +153,65 @@ pub fn verify(provable: u32, logic: u32, rules: &[u32], tokens: &[u32], list: &[
     let read = Rules::read(provable, logic, rules).ok_or(Refusal::BadRules);
     let result = read.and_then(|rules| check::verify(&rules, tokens, list, work.len()));
     Answer::of(result.map(|()| 0), 0)
+}
+
+/// The rules and statements of a package. For each statement the number of its tokens is written, then its tokens.
+pub fn package_read(bytes: &[u8], rules: &mut [u32], statements: &mut [u32]) -> Package {
+    rules.fill(0);
+    statements.fill(0);
+    match unpack(bytes, rules.len(), statements.len()) {
+        Ok(contents) => {
+            rules[..contents.rules.len()].copy_from_slice(&contents.rules);
+            statements[..contents.statements.len()].copy_from_slice(&contents.statements);
+            Package {
+                number: 0,
+                place: 0,
+                provable: contents.provable,
+                logic: contents.logic,
+                rules: contents.rules.len(),
+                statements: contents.count,
+                words: contents.statements.len(),
+            }
+        }
+        Err(refusal) => Package {
+            number: refusal.number(),
+            place: refusal.place(),
+            ..Package::default()
+        },
+    }
+}
+
+/// 7 and 10 come after the last record.
+fn unpack(bytes: &[u8], rules: usize, statements: usize) -> Result<Contents, Refusal> {
+    let contents = Contents::read(bytes)?;
+    if contents.rules.len() > rules || contents.statements.len() > statements {
+        return Err(Refusal::ListFull);
+    }
+    Rules::read(contents.provable, contents.logic, &contents.rules).ok_or(Refusal::BadRules)?;
+    Ok(contents)
+}
+
+/// The package of these rules and statements, each statement as the number of its tokens and its tokens.
+pub fn package_write(provable: u32, logic: u32, rules: &[u32], statements: &[u32], bytes: &mut [u8]) -> Written {
+    bytes.fill(0);
+    let read = Rules::read(provable, logic, rules).ok_or(Refusal::BadRules);
+    let written = read.and_then(|read| packed(&read, rules, statements));
+    match written.and_then(|package| put(&package, bytes)) {
+        Ok(length) => Written {
+            number: 0,
+            place: 0,
+            length,
+        },
+        Err(refusal) => Written {
+            number: refusal.number(),
+            place: refusal.place(),
+            length: 0,
+        },
+    }
+}
+
+fn put(package: &[u8], bytes: &mut [u8]) -> Result<usize, Refusal> {
+    let room = bytes.get_mut(..package.len()).ok_or(Refusal::ListFull)?;
+    room.copy_from_slice(package);
+    Ok(package.len())
 }

@@ -1,7 +1,8 @@
-//! Generators of what the entry points are given: rule sets, statements, tables, and damage to all of them.
+//! Generators of what the entry points are given: rule sets, statements, tables, packages, and damage to all of them.
 
 pub mod damage;
 pub mod limits;
+pub mod packages;
 pub mod rules;
 pub mod samples;
 pub mod sentences;

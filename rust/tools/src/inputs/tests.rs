@@ -1,6 +1,7 @@
 //! The generators make what they say.
 
 use super::limits;
+use super::packages::{bytes, counted, rearrange, records, with_item_fault, with_length_fault};
 use super::rules::{rule_set, RuleSet};
 use super::sentences::{guided, Grower};
 use super::tables::{ample_room, built, hand_made, piled, rearranged, with_tables, ROW};
@@ -144,4 +145,39 @@ fn long_lists_are_trees() {
     let (set, tokens, list) = limits::long_list(20_000);
     assert_eq!(verify(&set, &tokens, &list), 0);
     assert_eq!(number(&with_tables(&set, vec![0], Vec::new()), &tokens), 2);
+}
+
+/// The number that reading a package answers, with room for whatever it says.
+fn package_number(package: &[u8]) -> u32 {
+    let [mut rules, mut statements] = [(); 2].map(|()| vec![0; package.len() / 4]);
+    plain::package_read(package, &mut rules, &mut statements).number
+}
+
+#[test]
+fn packages_are_good_and_come_back() {
+    for set in sets(7) {
+        let statements = [vec![set.provable, 10], vec![], vec![0]];
+        let (package, words) = (bytes(&records(&set, &statements)), counted(&statements));
+        assert_eq!(package_number(&package), 0);
+        let mut written = vec![0; package.len()];
+        let answer = plain::package_write(set.provable, set.logic, &set.words(), &words, &mut written);
+        assert_eq!((answer.number, written), (0, package));
+    }
+}
+
+#[test]
+fn damaged_packages_are_refused_in_every_way() {
+    let mut random = Random::new(8);
+    let mut numbers = Vec::new();
+    for set in sets(8) {
+        let records = records(&set, &[vec![set.provable, 10]]);
+        let mut others = records.clone();
+        rearrange(&mut random, &mut others);
+        numbers.push(package_number(&bytes(&others)));
+        numbers.push(package_number(&with_length_fault(&mut random, &records)));
+        numbers.extend(with_item_fault(&mut random, &records).map(|package| package_number(&package)));
+    }
+    for number in [0, 10, 20, 21, 22, 23] {
+        assert!(numbers.contains(&number), "{number}");
+    }
 }

@@ -15,6 +15,8 @@ pub enum Entry {
     Build,
     Parse,
     Verify,
+    Read,
+    Write,
 }
 
 impl Entry {
@@ -28,19 +30,32 @@ impl Entry {
                 &["rules", "nodes", "edges", "tokens", "frames", "list", "work"],
             ),
             Entry::Verify => (&["provable", "logic"], &["rules", "tokens", "list", "work"]),
+            Entry::Read => (&[], &["bytes", "rules", "statements"]),
+            Entry::Write => (&["provable", "logic"], &["rules", "statements", "bytes"]),
         }
     }
 
     /// How many slices are only read.
     fn read(self) -> usize {
         match self {
-            Entry::Body | Entry::Build => 1,
+            Entry::Body | Entry::Build | Entry::Read => 1,
             Entry::Parse => 4,
             Entry::Verify => 3,
+            Entry::Write => 2,
+        }
+    }
+
+    /// The slice that is of bytes, if one is.
+    fn bytes(self) -> Option<usize> {
+        match self {
+            Entry::Read => Some(0),
+            Entry::Write => Some(2),
+            _ => None,
         }
     }
 }
 
+/// A slice of bytes has a byte in each of its words here.
 #[derive(Clone, Debug)]
 pub struct Call {
     pub entry: Entry,
@@ -83,6 +98,32 @@ impl Call {
             slices: vec![grammar.rules.clone(), tokens.to_vec(), list.to_vec(), garbage(random, work)],
         }
     }
+
+    pub fn read(random: &mut Random, bytes: &[u8], rules: usize, statements: usize) -> Call {
+        let bytes = bytes.iter().copied().map(u32::from).collect();
+        Call {
+            entry: Entry::Read,
+            numbers: vec![],
+            slices: vec![bytes, garbage(random, rules), garbage(random, statements)],
+        }
+    }
+
+    pub fn write(random: &mut Random, grammar: &Grammar, statements: &[u32], room: usize) -> Call {
+        let mut call = Call {
+            entry: Entry::Write,
+            numbers: vec![grammar.provable, grammar.logic],
+            slices: vec![grammar.rules.clone(), statements.to_vec(), garbage(random, room)],
+        };
+        call.cut_bytes();
+        call
+    }
+
+    /// Leaves a byte of each word in the slice that is of bytes.
+    pub fn cut_bytes(&mut self) {
+        if let Some(place) = self.entry.bytes() {
+            self.slices[place].iter_mut().for_each(|word| *word &= 0xff);
+        }
+    }
 }
 
 impl fmt::Display for Call {
@@ -99,34 +140,61 @@ impl fmt::Display for Call {
     }
 }
 
-/// Words on both sides of a slice; whoever writes beyond the slice changes them.
-const FENCE: [u32; 3] = [0x5a5a_5a5a, 7, 0xffff_0001];
+/// What stands on both sides of a slice, in words or bytes; whoever writes beyond the slice changes it.
+const FENCE: [u32; 3] = [0x5a, 7, 0xf1];
 
 /// A slice between fences. An empty one has none, so that its pointer leads nowhere.
-struct Fenced {
-    words: Vec<u32>,
-    fence: usize,
+enum Fenced {
+    Words(Vec<u32>),
+    Bytes(Vec<u8>),
+}
+
+/// A slice as it is lent.
+enum Lent<'a> {
+    Words(&'a mut [u32]),
+    Bytes(&'a mut [u8]),
 }
 
 impl Fenced {
-    fn new(slice: &[u32]) -> Fenced {
-        let fence: &[u32] = if slice.is_empty() { &[] } else { &FENCE };
-        Fenced {
-            words: [fence, slice, fence].concat(),
-            fence: fence.len(),
+    fn of(call: &Call) -> Vec<Fenced> {
+        let byte = call.entry.bytes();
+        let fenced = |(place, slice): (usize, &Vec<u32>)| {
+            let fence: &[u32] = if slice.is_empty() { &[] } else { &FENCE };
+            let words = [fence, slice, fence].concat();
+            match byte == Some(place) {
+                true => Fenced::Bytes(words.into_iter().map(|word| word as u8).collect()),
+                false => Fenced::Words(words),
+            }
+        };
+        call.slices.iter().enumerate().map(fenced).collect()
+    }
+
+    fn inner(&mut self) -> Lent<'_> {
+        match self {
+            Fenced::Words(words) => Lent::Words(between(words)),
+            Fenced::Bytes(bytes) => Lent::Bytes(between(bytes)),
         }
     }
 
-    fn inner(&mut self) -> &mut [u32] {
-        let end = self.words.len() - self.fence;
-        &mut self.words[self.fence..end]
+    fn words(self) -> Vec<u32> {
+        match self {
+            Fenced::Words(words) => words,
+            Fenced::Bytes(bytes) => bytes.into_iter().map(u32::from).collect(),
+        }
+    }
+}
+
+fn between<T>(fenced: &mut [T]) -> &mut [T] {
+    match fenced.len() {
+        0 => fenced,
+        length => &mut fenced[FENCE.len()..length - FENCE.len()],
     }
 }
 
 /// All that a call gives back: the fields of its result, and every slice at exit with its fences.
 #[derive(Clone, Debug, PartialEq, Eq)]
 pub struct Outcome {
-    pub fields: Vec<u32>,
+    pub fields: Vec<u64>,
     slices: Vec<Vec<u32>>,
 }
 
@@ -162,42 +230,59 @@ impl fmt::Display for Outcome {
     }
 }
 
+/// The library's entry points.
+mod library_words {
+    pub use jiehkavon::words::*;
+    // A stand-in, until the library has packages: without this line it is held against the ordinary Rust.
+    pub use plain::words::{package_read, package_write};
+}
+
 /// Both sides have the same functions and fields, and no type in common.
 macro_rules! side {
     ($name:ident, $($words:tt)+) => {
         fn $name(call: &Call) -> Outcome {
             use $($words)+ as words;
-            let mut fenced: Vec<Fenced> = call.slices.iter().map(|slice| Fenced::new(slice)).collect();
-            let mut slices: Vec<&mut [u32]> = fenced.iter_mut().map(Fenced::inner).collect();
+            use Lent::{Bytes as B, Words as W};
+            let mut fenced = Fenced::of(call);
+            let mut slices: Vec<Lent> = fenced.iter_mut().map(Fenced::inner).collect();
             let fields = match (call.entry, &call.numbers[..], &mut slices[..]) {
-                (Entry::Body, &[provable, logic, rule], [rules]) => {
+                (Entry::Body, &[provable, logic, rule], [W(rules)]) => {
                     let words::Stretch { start, length } = words::body(provable, logic, rules, rule);
-                    vec![start, length]
+                    [start, length].map(u64::from).to_vec()
                 }
-                (Entry::Build, &[provable, logic], [rules, nodes, edges]) => {
+                (Entry::Build, &[provable, logic], [W(rules), W(nodes), W(edges)]) => {
                     let words::Built { number, nodes, edges } = words::build(provable, logic, rules, nodes, edges);
-                    vec![number, nodes, edges]
+                    [number, nodes, edges].map(u64::from).to_vec()
                 }
-                (Entry::Parse, &[provable, logic, allowance], [rules, nodes, edges, tokens, frames, list, work]) => {
+                (Entry::Parse, &[provable, logic, allowance], [W(rules), W(nodes), W(edges), W(tokens), W(frames), W(list), W(work)]) => {
                     let words::Answer { number, place, length, passes } =
                         words::parse(provable, logic, rules, nodes, edges, tokens, allowance, frames, list, work);
-                    vec![number, place, length, passes]
+                    [number, place, length, passes].map(u64::from).to_vec()
                 }
-                (Entry::Verify, &[provable, logic], [rules, tokens, list, work]) => {
+                (Entry::Verify, &[provable, logic], [W(rules), W(tokens), W(list), W(work)]) => {
                     let words::Answer { number, place, length, passes } = words::verify(provable, logic, rules, tokens, list, work);
-                    vec![number, place, length, passes]
+                    [number, place, length, passes].map(u64::from).to_vec()
+                }
+                (Entry::Read, &[], [B(bytes), W(rules), W(statements)]) => {
+                    let read = words::package_read(bytes, rules, statements);
+                    let counts = [read.place, read.rules, read.statements, read.words].map(|count| count as u64);
+                    [[read.number, read.provable, read.logic].map(u64::from).to_vec(), counts.to_vec()].concat()
+                }
+                (Entry::Write, &[provable, logic], [W(rules), W(statements), B(bytes)]) => {
+                    let written = words::package_write(provable, logic, rules, statements, bytes);
+                    vec![u64::from(written.number), written.place as u64, written.length as u64]
                 }
                 _ => panic!("{call} is not a call"),
             };
             Outcome {
                 fields,
-                slices: fenced.into_iter().map(|fenced| fenced.words).collect(),
+                slices: fenced.into_iter().map(Fenced::words).collect(),
             }
         }
     };
 }
 
-side!(library, jiehkavon::words);
+side!(library, self::library_words);
 side!(ordinary, plain::words);
 
 /// What the two sides gave back. The ordinary one may also panic, which is a disagreement like any other.
@@ -238,5 +323,20 @@ mod tests {
             changed.slices[slice][place] += 1;
             assert_eq!(changed.kept(&call), kept);
         }
+    }
+
+    #[test]
+    fn bytes_are_lent_between_fences_too() {
+        let call = Call {
+            entry: Entry::Write,
+            numbers: vec![1, 2],
+            slices: vec![vec![], vec![], vec![9; 21]],
+        };
+        let outcome = ordinary(&call);
+        assert!(outcome.kept(&call) && outcome.slice(2).starts_with(&[10, 0, 0, 0, 1, 0, 1]));
+        assert_eq!((&outcome.fields[..], outcome.slice(2)[20]), (&[0, 0, 20][..], 0));
+        let mut changed = outcome.clone();
+        changed.slices[2][FENCE.len() + 21] += 1;
+        assert!(!changed.kept(&call));
     }
 }

@@ -4,13 +4,13 @@ use std::fmt;
 
 use super::call::Entry;
 
-/// Numbers up to 16.
-const NUMBERS: usize = 17;
-const ENTRIES: [Entry; 4] = [Entry::Body, Entry::Build, Entry::Parse, Entry::Verify];
+/// Numbers up to 23.
+const NUMBERS: usize = 24;
+const ENTRIES: [Entry; 6] = [Entry::Body, Entry::Build, Entry::Parse, Entry::Verify, Entry::Read, Entry::Write];
 
 /// For `body`, which has no number, 0 counts bodies and 1 empty stretches.
 #[derive(Default)]
-pub struct Counts([[u64; NUMBERS]; 4]);
+pub struct Counts([[u64; NUMBERS]; ENTRIES.len()]);
 
 /// The answers that an entry point can give.
 fn answers(entry: Entry) -> &'static [usize] {
@@ -19,11 +19,13 @@ fn answers(entry: Entry) -> &'static [usize] {
         Entry::Build => &[0, 10, 11, 12, 13, 14, 16],
         Entry::Parse => &[0, 1, 2, 3, 4, 5, 6, 7, 8, 9, 10],
         Entry::Verify => &[0, 1, 4, 7, 9, 10],
+        Entry::Read => &[0, 7, 10, 20, 21, 22, 23],
+        Entry::Write => &[0, 7, 10, 22],
     }
 }
 
 impl Counts {
-    pub fn add(&mut self, entry: Entry, fields: &[u32]) {
+    pub fn add(&mut self, entry: Entry, fields: &[u64]) {
         let answer = match entry {
             Entry::Body => (fields[1] == 0) as usize,
             _ => fields[0] as usize,

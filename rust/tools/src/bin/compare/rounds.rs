@@ -14,10 +14,10 @@ use super::rooms::{ample_rooms, needed_build, needed_rooms, one_short, plain_roo
 
 /// The call on which the two sides disagree.
 pub type Disagreement = Box<Call>;
-type Compared = Result<(), Disagreement>;
+pub type Compared = Result<(), Disagreement>;
 
 pub struct Comparison {
-    random: Random,
+    pub random: Random,
     pub counts: Counts,
     limit_rounds: usize,
 }
@@ -32,17 +32,18 @@ impl Comparison {
     }
 
     pub fn round(&mut self) -> Compared {
-        match self.random.weighted(&[700, 150, 60, 40, 20, 5]) {
+        match self.random.weighted(&[700, 150, 60, 40, 20, 30, 5]) {
             0 => self.grammar_round(),
             1 => self.hand_made_round(),
             2 => self.arbitrary_round(),
             3 => self.piled_round(),
             4 => self.many_tokens_round(),
+            5 => self.package_round(),
             _ => self.limit_round(),
         }
     }
 
-    fn compare(&mut self, call: Call) -> Result<Outcome, Disagreement> {
+    pub fn compare(&mut self, call: Call) -> Result<Outcome, Disagreement> {
         let both = Both::of(&call);
         if !both.agree(&call) {
             return Err(Box::new(call));
@@ -52,7 +53,7 @@ impl Comparison {
     }
 
     /// The call, and others like it: one slice cut short, words damaged, other typecodes.
-    fn compare_around(&mut self, call: Call) -> Result<Outcome, Disagreement> {
+    pub fn compare_around(&mut self, call: Call) -> Result<Outcome, Disagreement> {
         let cut = self.cut(&call);
         self.compare(cut)?;
         let damaged = self.damaged(&call);
@@ -71,13 +72,14 @@ impl Comparison {
 
     fn damaged(&mut self, call: &Call) -> Call {
         let mut call = call.clone();
-        if self.random.chance(15) {
+        if !call.numbers.is_empty() && self.random.chance(15) {
             let place = self.random.below(call.numbers.len());
             let other = self.random.pick(&call.numbers);
             call.numbers[place] = self.random.pick(&[0, 65_535, 65_536, u32::MAX, other]);
         } else {
             let place = self.random.below(call.slices.len());
             damage(&mut self.random, &mut call.slices[place]);
+            call.cut_bytes();
         }
         call
     }
@@ -173,7 +175,7 @@ impl Comparison {
     }
 
     /// A grown statement as it is or damaged, or noise.
-    fn statement(&mut self, set: &RuleSet, grower: &Grower) -> Sentence {
+    pub fn statement(&mut self, set: &RuleSet, grower: &Grower) -> Sentence {
         let size = self.random.between(1..=25);
         let typecode = if self.random.chance(75) {
             set.logic
@@ -251,7 +253,7 @@ impl Comparison {
         };
         let answer = |tokens: &[u32]| match ready.parse(tokens, plain_rooms(ample_rooms(tokens))).list {
             Ok(_) => (0, 0),
-            Err(refusal) => (refusal.number(), refusal.place()),
+            Err(refusal) => (refusal.number(), refusal.place() as u32),
         };
         let first = if self.random.chance(70) {
             set.provable
@@ -270,13 +272,17 @@ impl Comparison {
             (Entry::Build, 2, 3),
             (Entry::Parse, 3, 7),
             (Entry::Verify, 2, 4),
+            (Entry::Read, 0, 3),
+            (Entry::Write, 2, 3),
         ] {
             let mut numbers: Vec<u32> = (0..numbers).map(|_| word(&mut self.random)).collect();
-            if self.random.chance(70) {
+            if numbers.len() >= 2 && self.random.chance(70) {
                 numbers[..2].copy_from_slice(&[1, 2]);
             }
             let slices = (0..slices).map(|_| words(&mut self.random, 40)).collect();
-            self.compare(Call { entry, numbers, slices })?;
+            let mut call = Call { entry, numbers, slices };
+            call.cut_bytes();
+            self.compare(call)?;
         }
         Ok(())
     }
