@@ -6,6 +6,8 @@
 static_assert(sizeof(jiehkavon_answer) == 16, "four words");
 static_assert(sizeof(jiehkavon_built) == 12, "three words");
 static_assert(sizeof(jiehkavon_stretch) == 8, "two words");
+static_assert(sizeof(jiehkavon_package) == 48, "three words, of which one is padded, and four sizes");
+static_assert(sizeof(jiehkavon_written) == 24, "a padded word and two sizes");
 
 int main() {
     const uint32_t rules[] = {2, 1, 0, 10}, tokens[] = {1, 10};

@@ -1,15 +1,15 @@
 /* SPDX-License-Identifier: MIT OR Apache-2.0 (the file NOTICE says more) */
 /* A Metamath statement parser that is proved. This is its C boundary; the code behind it is libdesk_c.a, for x86-64.
  *
- * A slice is two arguments, a pointer to 32-bit words and how many there are. An empty slice may have any pointer,
- * NULL among them. What a caller owes is this alone: the words of each slice are there for the length of the call,
- * and a slice lent for writing overlaps no other slice of the call. Nothing is asked of the words themselves. Every
- * call ends, allocates nothing, keeps no pointer and has no state; two threads may call at once with slices of their
- * own.
+ * A slice is two arguments, a pointer to 32-bit words, or to bytes, and how many there are. An empty slice may have
+ * any pointer, NULL among them. What a caller owes is this alone: the words of each slice are there for the length of
+ * the call, and a slice lent for writing overlaps no other slice of the call. Nothing is asked of the words
+ * themselves. Every call ends, allocates nothing, keeps no pointer and has no state; two threads may call at once with
+ * slices of their own.
  *
- * Every call takes the provable and the logic typecode and the rules. A rule is its result typecode, the number of
- * its items, and two words for each item: 0 and a constant, or 1 and the typecode of a slot. Rules are numbered from
- * 1. A rule of one slot is a conversion.
+ * Every call but the reading of a package takes the provable and the logic typecode and the rules. A rule is its
+ * result typecode, the number of its items, and two words for each item: 0 and a constant, or 1 and the typecode of a
+ * slot. Rules are numbered from 1. A rule of one slot is a conversion.
  */
 #ifndef JIEHKAVON_H
 #define JIEHKAVON_H
@@ -30,7 +30,8 @@ enum {
     JIEHKAVON_NOT_WELL_TYPED = 4,  /* no well typed tree that spells the statement */
     JIEHKAVON_PASSES_USED_UP = 5,  /* a further pass is needed and the allowance is used up */
     JIEHKAVON_FRAMES_FULL = 6,     /* a frame is needed and the frame slice is full */
-    JIEHKAVON_LIST_FULL = 7,       /* an entry is needed and the list or its work slice is full */
+    JIEHKAVON_LIST_FULL = 7,       /* an entry is needed and the list or its work slice is full; or a package does not
+                                    * fit a slice lent for it */
     JIEHKAVON_BAD_TABLES = 8,      /* the nodes or the edges are bad */
     JIEHKAVON_TOO_LONG = 9,        /* more than JIEHKAVON_MOST_TOKENS tokens */
     JIEHKAVON_BAD_RULES = 10,      /* the rules, or the two typecodes, are bad */
@@ -38,7 +39,11 @@ enum {
     JIEHKAVON_NODES_FULL = 12,     /* a node is needed and none is free */
     JIEHKAVON_EDGES_FULL = 13,     /* an edge is needed and none is free */
     JIEHKAVON_SIXTH_REDUCE = 14,   /* conversions put a sixth reduce on an edge */
-    JIEHKAVON_BAD_COPY = 16        /* a conversion would copy from or to a leaf, or a node to itself */
+    JIEHKAVON_BAD_COPY = 16,       /* a conversion would copy from or to a leaf, or a node to itself */
+    JIEHKAVON_BAD_LENGTH = 20,     /* a record's length is cut short, is under 2, or goes past the package */
+    JIEHKAVON_UNKNOWN_KIND = 21,   /* there is no such kind of record */
+    JIEHKAVON_WRONG_SIZE = 22,     /* a record's body has a wrong size, or a statement can't be written */
+    JIEHKAVON_WRONG_ORDER = 23     /* a record may not stand here, is missing, or comes after the end record */
 };
 
 /* Limits. What passes them is refused, by the numbers above. */
@@ -147,6 +152,61 @@ jiehkavon_answer jiehkavon_verify(
     const uint32_t *tokens, size_t tokens_length,
     const uint32_t *list, size_t list_length,
     uint32_t *work, size_t work_length);
+
+/* A package is rules and statements in one file. Its numbers are little-endian, and it is a row of records: four bytes
+ * that say how many follow in this record, two for its kind, then words of four bytes.
+ *
+ *   kind 1   the provable and the logic typecode; the first record, and no other
+ *   kind 2   a rule, as in the rule slice
+ *   kind 3   the tokens of a statement, the typecode first; after all rules
+ *   kind 4   nothing; the end
+ *
+ * In a slice of words a statement is the number of its tokens, then its tokens. */
+
+/* Words that are enough for the rules of a package of so many bytes, and as many for its statements. */
+static inline size_t jiehkavon_enough_words(size_t bytes) {
+    return bytes / 4;
+}
+
+/* Bytes that are enough for the package of rules and statements of so many words. */
+static inline size_t jiehkavon_enough_bytes(size_t rules_length, size_t statements_length) {
+    return 20 + 6 * (rules_length + statements_length);
+}
+
+/* What reading a package answers. If refused, all but the first two are 0. */
+typedef struct jiehkavon_package {
+    uint32_t number;   /* JIEHKAVON_OK, or why not */
+    size_t place;      /* for 20 to 23 the record, counted from 0; else 0 */
+    uint32_t provable; /* the two typecodes */
+    uint32_t logic;
+    size_t rules;      /* the words of the rule slice that are rules */
+    size_t statements; /* how many statements there are */
+    size_t words;      /* the words of the statement slice that are statements */
+} jiehkavon_package;
+
+/* What writing a package answers. */
+typedef struct jiehkavon_written {
+    uint32_t number; /* JIEHKAVON_OK, or why not */
+    size_t place;    /* always 0 */
+    size_t length;   /* the bytes of the package; 0 if refused */
+} jiehkavon_written;
+
+/* Reads a package. The rules are at the front of `rules`, the statements at the front of `statements`, zeros after
+ * them. If refused, both slices are zero. At each record come 23 for no byte before the end record or one after it,
+ * then 20, 21, 22, and 23 for a wrong order; after the last record 7, then 10. */
+jiehkavon_package jiehkavon_package_read(
+    const uint8_t *bytes, size_t bytes_length,
+    uint32_t *rules, size_t rules_length,
+    uint32_t *statements, size_t statements_length);
+
+/* Writes a package to the front of `bytes`, zeros after it. If refused, `bytes` is zero: 10, then 22 for a statement
+ * of 2^30 tokens or more and for words that end within a statement, then 7. Reading what was written gives the same
+ * typecodes, rules and statements; writing what was read gives the same bytes. */
+jiehkavon_written jiehkavon_package_write(
+    uint32_t provable, uint32_t logic,
+    const uint32_t *rules, size_t rules_length,
+    const uint32_t *statements, size_t statements_length,
+    uint8_t *bytes, size_t bytes_length);
 
 #ifdef __cplusplus
 }

@@ -4,7 +4,7 @@ use std::error::Error;
 use std::fmt;
 
 use crate::rules::Rules;
-use crate::words::{Answer, Built};
+use crate::words::{Answer, Built, Read, Written};
 
 /// Why a build was refused. A refused build leaves nothing behind.
 #[derive(Clone, Copy, Debug, PartialEq, Eq, Hash)]
@@ -316,3 +316,148 @@ impl fmt::Display for VerifyError {
 }
 
 impl Error for VerifyError {}
+
+/// Why a package was not read. Records are counted from 0.
+#[derive(Clone, Copy, Debug, PartialEq, Eq, Hash)]
+#[non_exhaustive]
+pub enum ReadError {
+    /// 7: the rules or the statements don't fit the slice lent for them.
+    RoomTooShort,
+    /// 10: the rules, or the two typecodes, are bad.
+    BadRules,
+    /// 20: a record's length is cut short, is under 2, or goes past the end of the package.
+    BadLength {
+        /// The record.
+        record: usize,
+    },
+    /// 21: there is no such kind of record.
+    UnknownKind {
+        /// The record.
+        record: usize,
+    },
+    /// 22: the record's body has a size that its kind can't have.
+    WrongSize {
+        /// The record.
+        record: usize,
+    },
+    /// 23: the record may not stand here, is missing, or comes after the end.
+    WrongOrder {
+        /// The record: where it is missing or comes after the end, the one that would be next.
+        record: usize,
+    },
+    /// A number that no read answers with. The library is proved not to; the type of a C function can't say that.
+    Unlisted(u32),
+}
+
+impl ReadError {
+    /// What an answer of [`crate::words::package_read`] refuses; none if it is 0.
+    pub fn of(read: Read) -> Option<ReadError> {
+        let record = read.place;
+        match read.number {
+            0 => None,
+            7 => Some(ReadError::RoomTooShort),
+            10 => Some(ReadError::BadRules),
+            20 => Some(ReadError::BadLength { record }),
+            21 => Some(ReadError::UnknownKind { record }),
+            22 => Some(ReadError::WrongSize { record }),
+            23 => Some(ReadError::WrongOrder { record }),
+            number => Some(ReadError::Unlisted(number)),
+        }
+    }
+
+    /// The paper's number.
+    pub fn number(&self) -> u32 {
+        match *self {
+            ReadError::RoomTooShort => 7,
+            ReadError::BadRules => 10,
+            ReadError::BadLength { .. } => 20,
+            ReadError::UnknownKind { .. } => 21,
+            ReadError::WrongSize { .. } => 22,
+            ReadError::WrongOrder { .. } => 23,
+            ReadError::Unlisted(number) => number,
+        }
+    }
+
+    /// The record that the refusal is about, if it is about one.
+    pub fn record(&self) -> Option<usize> {
+        match *self {
+            ReadError::BadLength { record }
+            | ReadError::UnknownKind { record }
+            | ReadError::WrongSize { record }
+            | ReadError::WrongOrder { record } => Some(record),
+            _ => None,
+        }
+    }
+}
+
+impl fmt::Display for ReadError {
+    fn fmt(&self, f: &mut fmt::Formatter<'_>) -> fmt::Result {
+        let why = match self {
+            ReadError::RoomTooShort => "the rules or the statements don't fit the room lent for them",
+            ReadError::BadRules => "the rules are bad",
+            ReadError::BadLength { .. } => "a record's length is cut short, under 2, or goes past the end",
+            ReadError::UnknownKind { .. } => "there is no such kind of record",
+            ReadError::WrongSize { .. } => "a record's body has the wrong size",
+            ReadError::WrongOrder { .. } => "a record stands in a wrong place, is missing, or comes after the end record",
+            ReadError::Unlisted(_) => "the library gave a number that no read answers with",
+        };
+        write!(f, "read refused with {}: {why}", self.number())?;
+        match self.record() {
+            Some(record) => write!(f, ", at record {record}"),
+            None => Ok(()),
+        }
+    }
+}
+
+impl Error for ReadError {}
+
+/// Why a package was not written.
+#[derive(Clone, Copy, Debug, PartialEq, Eq, Hash)]
+#[non_exhaustive]
+pub enum WriteError {
+    /// 7: the package doesn't fit the slice lent for it.
+    RoomTooShort,
+    /// 10: the rules, or the two typecodes, are bad.
+    BadRules,
+    /// 22: a statement is too long for the length of its record, or the words lent end within a statement.
+    WrongSize,
+    /// A number that no write answers with. The library is proved not to; the type of a C function can't say that.
+    Unlisted(u32),
+}
+
+impl WriteError {
+    /// What an answer of [`crate::words::package_write`] refuses; none if it is 0.
+    pub fn of(written: Written) -> Option<WriteError> {
+        match written.number {
+            0 => None,
+            7 => Some(WriteError::RoomTooShort),
+            10 => Some(WriteError::BadRules),
+            22 => Some(WriteError::WrongSize),
+            number => Some(WriteError::Unlisted(number)),
+        }
+    }
+
+    /// The paper's number.
+    pub fn number(&self) -> u32 {
+        match *self {
+            WriteError::RoomTooShort => 7,
+            WriteError::BadRules => 10,
+            WriteError::WrongSize => 22,
+            WriteError::Unlisted(number) => number,
+        }
+    }
+}
+
+impl fmt::Display for WriteError {
+    fn fmt(&self, f: &mut fmt::Formatter<'_>) -> fmt::Result {
+        let why = match self {
+            WriteError::RoomTooShort => "the package doesn't fit the room lent for it",
+            WriteError::BadRules => "the rules are bad",
+            WriteError::WrongSize => "a statement is too long for its record, or is not whole",
+            WriteError::Unlisted(_) => "the library gave a number that no write answers with",
+        };
+        write!(f, "write refused with {}: {why}", self.number())
+    }
+}
+
+impl Error for WriteError {}

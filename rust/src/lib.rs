@@ -44,8 +44,10 @@
 //! # }
 //! ```
 //!
+//! Rules and statements also come as one file, a [`Package`].
+//!
 //! Nothing here panics, whatever words arrive, and nothing runs short: buffers are sized by bounds that are proved ([`Room`]) or derived
-//! ([`Grammar::build`]). Who wants to lend buffers of another size, or has words of unknown origin, calls the four entry points in [`words`].
+//! ([`Grammar::build`]). Who wants to lend buffers of another size, or has words of unknown origin, calls the entry points in [`words`].
 
 #![deny(missing_docs, unsafe_code)]
 
@@ -54,6 +56,7 @@ mod formula;
 mod grammar;
 pub mod limits;
 mod numbers;
+mod package;
 mod parser;
 mod rules;
 mod statement;
@@ -61,10 +64,11 @@ mod tables;
 #[allow(unsafe_code)]
 pub mod words;
 
-pub use errors::{BuildError, ParseError, RefusedRules, VerifyError};
+pub use errors::{BuildError, ParseError, ReadError, RefusedRules, VerifyError, WriteError};
 pub use formula::{Formula, Preorder, Subtree, Tree};
 pub use grammar::Grammar;
 pub use numbers::{Item, NodeNo, NotASymbol, RuleNo, Symbol};
+pub use package::Package;
 pub use parser::{Parsed, Parser, Room};
 pub use rules::Rules;
 pub use statement::Statement;

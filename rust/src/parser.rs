@@ -62,8 +62,13 @@ impl Parser {
 
     /// The formula of a statement, or why there is none.
     pub fn parse(&mut self, grammar: &Grammar, statement: &Statement) -> Result<Parsed<'_>, ParseError> {
+        self.parse_words(grammar, statement.words())
+    }
+
+    /// The same for tokens that stand somewhere else, the typecode first.
+    pub fn parse_words(&mut self, grammar: &Grammar, tokens: &[u32]) -> Result<Parsed<'_>, ParseError> {
         let (rules, tables) = (grammar.rules(), grammar.tables());
-        let room = Room::for_tokens(statement.words().len());
+        let room = Room::for_tokens(tokens.len());
         let list = self.formula.words_mut();
         self.frames.resize(room.frames, 0);
         self.work.resize(room.list, 0);
@@ -74,7 +79,7 @@ impl Parser {
             rules.words(),
             tables.node_words(),
             tables.edge_words(),
-            statement.words(),
+            tokens,
             room.allowance,
             &mut self.frames,
             list,

@@ -1,6 +1,6 @@
-//! The four entry points as they are: slices of words in, numbers out.
+//! The entry points as they are: slices of words and bytes in, numbers out.
 //!
-//! Nothing is asked of the words: any may stand in any slice. This module is the only one with unsafe code, and all that its calls owe the
+//! Nothing is asked of the words and bytes: any may stand in any slice. This module is the only one with unsafe code, and all that its calls owe the
 //! library is that the slices are there, which a Rust slice always is.
 
 /// What a parse or a check answers.
@@ -39,8 +39,40 @@ pub struct Stretch {
     pub length: u32,
 }
 
+/// What reading a package answers.
+#[repr(C)]
+#[derive(Clone, Copy, Debug, PartialEq, Eq, Hash)]
+pub struct Read {
+    /// 0, or the number of the refusal.
+    pub number: u32,
+    /// The record that a refusal is about, counted from 0; else 0.
+    pub place: usize,
+    /// The provable typecode; 0 for a refusal.
+    pub provable: u32,
+    /// The logic typecode; 0 for a refusal.
+    pub logic: u32,
+    /// How many words at the front of the rule slice are the rules; 0 for a refusal.
+    pub rules: usize,
+    /// How many statements there are; 0 for a refusal.
+    pub statements: usize,
+    /// How many words at the front of the statement slice are the statements; 0 for a refusal.
+    pub words: usize,
+}
+
+/// What writing a package answers.
+#[repr(C)]
+#[derive(Clone, Copy, Debug, PartialEq, Eq, Hash)]
+pub struct Written {
+    /// 0, or the number of the refusal.
+    pub number: u32,
+    /// Always 0.
+    pub place: usize,
+    /// How many bytes at the front of the slice are the package; 0 for a refusal.
+    pub length: usize,
+}
+
 mod c {
-    use super::{Answer, Built, Stretch};
+    use super::{Answer, Built, Read, Stretch, Written};
 
     extern "C" {
         pub fn jiehkavon_body(provable: u32, logic: u32, rules: *const u32, rules_length: usize, rule: u32) -> Stretch;
@@ -85,6 +117,24 @@ mod c {
             work: *mut u32,
             work_length: usize,
         ) -> Answer;
+        pub fn jiehkavon_package_read(
+            bytes: *const u8,
+            bytes_length: usize,
+            rules: *mut u32,
+            rules_length: usize,
+            statements: *mut u32,
+            statements_length: usize,
+        ) -> Read;
+        pub fn jiehkavon_package_write(
+            provable: u32,
+            logic: u32,
+            rules: *const u32,
+            rules_length: usize,
+            statements: *const u32,
+            statements_length: usize,
+            bytes: *mut u8,
+            bytes_length: usize,
+        ) -> Written;
     }
 }
 
@@ -164,6 +214,39 @@ pub fn verify(provable: u32, logic: u32, rules: &[u32], tokens: &[u32], list: &[
             list.len(),
             work.as_mut_ptr(),
             work.len(),
+        )
+    }
+}
+
+/// The rules of a package at the front of `rules`, its statements at the front of `statements`, for each the number of its tokens and then its
+/// tokens; or a refusal.
+pub fn package_read(bytes: &[u8], rules: &mut [u32], statements: &mut [u32]) -> Read {
+    // SAFETY: the slices are there for the call, and the two lent for writing are apart from each other and from the bytes.
+    unsafe {
+        c::jiehkavon_package_read(
+            bytes.as_ptr(),
+            bytes.len(),
+            rules.as_mut_ptr(),
+            rules.len(),
+            statements.as_mut_ptr(),
+            statements.len(),
+        )
+    }
+}
+
+/// The package of rules and statements at the front of `bytes`; or a refusal.
+pub fn package_write(provable: u32, logic: u32, rules: &[u32], statements: &[u32], bytes: &mut [u8]) -> Written {
+    // SAFETY: the slices are there for the call, and the one lent for writing is apart from all that is read.
+    unsafe {
+        c::jiehkavon_package_write(
+            provable,
+            logic,
+            rules.as_ptr(),
+            rules.len(),
+            statements.as_ptr(),
+            statements.len(),
+            bytes.as_mut_ptr(),
+            bytes.len(),
         )
     }
 }

@@ -2,12 +2,14 @@
 
 use std::mem::{align_of, offset_of, size_of};
 
-use jiehkavon::words::{Answer, Built, Stretch};
+use jiehkavon::words::{Answer, Built, Read, Stretch, Written};
 
 #[test]
 fn sizes() {
     assert_eq!([size_of::<Answer>(), size_of::<Built>(), size_of::<Stretch>()], [16, 12, 8]);
     assert_eq!([align_of::<Answer>(), align_of::<Built>(), align_of::<Stretch>()], [4, 4, 4]);
+    assert_eq!([size_of::<Read>(), size_of::<Written>()], [48, 24]);
+    assert_eq!([align_of::<Read>(), align_of::<Written>()], [8, 8]);
 }
 
 #[test]
@@ -24,4 +26,18 @@ fn fields_in_order() {
         [0, 4, 8]
     );
     assert_eq!([offset_of!(Stretch, start), offset_of!(Stretch, length)], [0, 4]);
+    let read = [
+        offset_of!(Read, number),
+        offset_of!(Read, place),
+        offset_of!(Read, provable),
+        offset_of!(Read, logic),
+        offset_of!(Read, rules),
+        offset_of!(Read, statements),
+        offset_of!(Read, words),
+    ];
+    assert_eq!(read, [0, 8, 16, 20, 24, 32, 40]);
+    assert_eq!(
+        [offset_of!(Written, number), offset_of!(Written, place), offset_of!(Written, length)],
+        [0, 8, 16]
+    );
 }
