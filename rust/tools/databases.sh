@@ -1,6 +1,7 @@
 #!/usr/bin/env bash
 # Every statement of every database in Debian's package metamath-databases, through the library; docs/DATABASES.md says what comes out. With
-# JIEHKAVON_ORACLE set to the line driver around the published Rust, each answer is held against it as well.
+# JIEHKAVON_ORACLE set to the line driver around the published Rust, each answer is held against it as well. With --packages each database
+# goes through a package instead, and has to come out as it went in.
 set -eu
 here=$(CDPATH='' cd -- "$(dirname -- "${BASH_SOURCE[0]}")" && pwd)
 # shellcheck source=../../c/machine.sh
@@ -14,6 +15,9 @@ if [ ! -d "$folder" ]; then
     unpacked=$here/../target/databases
     [ -d "$unpacked" ] || beside "$unpacked" metamath-databases
     folder=$unpacked$folder
+fi
+if [ "${1:-}" = --packages ]; then
+    exec "$(dirname "$0")/../cargo" run --release -q -p tools --bin packages -- "$folder"/*.mm
 fi
 oracle=()
 if [ -n "${JIEHKAVON_ORACLE:-}" ]; then

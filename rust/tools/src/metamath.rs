@@ -3,6 +3,7 @@
 //! Proofs and distinct variables are passed over. A variable's `$f` becomes a rule with one constant, an `$a` of a typecode other than the
 //! provable one a rule with constants and slots; every other `$a`, and every `$e` and `$p`, is a statement.
 
+use jiehkavon::{NotASymbol, Package, Rules, Symbol};
 use std::collections::HashMap;
 use std::str::SplitAsciiWhitespace;
 
@@ -14,6 +15,16 @@ const LOGIC: &str = "wff";
 pub enum Item {
     Constant(u32),
     Slot(u32),
+}
+
+impl Item {
+    /// The item as the library's crate has it.
+    fn typed(self) -> Result<jiehkavon::Item, NotASymbol> {
+        match self {
+            Item::Constant(s) => Symbol::try_from(s).map(jiehkavon::Item::Constant),
+            Item::Slot(t) => Symbol::try_from(t).map(jiehkavon::Item::Slot),
+        }
+    }
 }
 
 #[derive(Clone, Debug)]
@@ -52,6 +63,41 @@ impl Database {
             Database { provable: 0, .. } | Database { logic: 0, .. } => Err("the provable or the logic typecode isn't declared".to_owned()),
             database => Ok(database),
         }
+    }
+
+    /// The database in a file.
+    pub fn read_file(path: &str) -> Result<Database, String> {
+        let text = std::fs::read_to_string(path).map_err(|e| format!("{path}: {e}"))?;
+        Database::read(&text).map_err(|e| format!("{path}: {e}"))
+    }
+
+    /// The database in a file under the file's own name, and once more without the rules that have an empty body, if it has any: those are
+    /// refused here and vanish in the Rust.
+    pub fn read_both(path: &str) -> Result<Vec<(String, Database)>, String> {
+        let database = Database::read_file(path)?;
+        let name = path.rsplit('/').next().unwrap_or(path);
+        let mut without = database.clone();
+        without.rules.retain(|r| !r.body.is_empty());
+        let same = without.rules.len() == database.rules.len();
+        let both = [(name.to_owned(), database), (format!("{name} without its empty rule"), without)];
+        Ok(both.into_iter().take(if same { 1 } else { 2 }).collect())
+    }
+
+    /// The rules as the library's crate has them.
+    pub fn rules(&self) -> Result<Rules, NotASymbol> {
+        let mut rules = Rules::new(Symbol::try_from(self.provable)?, Symbol::try_from(self.logic)?);
+        for rule in &self.rules {
+            let body: Result<Vec<_>, NotASymbol> = rule.body.iter().map(|item| item.typed()).collect();
+            rules.push(Symbol::try_from(rule.result)?, &body?);
+        }
+        Ok(rules)
+    }
+
+    /// The rules and the statements as a package. Labels and names stay behind.
+    pub fn package(&self) -> Result<Package, NotASymbol> {
+        let mut package = Package::new(self.rules()?);
+        self.statements.iter().for_each(|statement| package.push(&statement.tokens));
+        Ok(package)
     }
 
     /// The rules as the words of the paper's table.
@@ -344,6 +390,15 @@ mod tests {
         assert_eq!(names(d.statements.iter().map(|s| s.label.clone())), "e th sy ax");
         assert_eq!(d.statements[1].tokens, [1, 4, 9, 5, 10, 6]);
         assert_eq!(d.statements[2].tokens, [2, 4, 9, 5, 9, 6]);
+    }
+
+    #[test]
+    fn a_package_has_the_same_rules_and_statements() {
+        let d = read();
+        let package = d.package().expect("its symbols are few");
+        assert_eq!((package.rules().provable().word(), package.rules().logic().word()), (1, 2));
+        assert_eq!(package.rules().words(), d.rule_words());
+        assert!(package.statements().eq(d.statements.iter().map(|s| &s.tokens[..])));
     }
 
     #[test]

@@ -341,18 +341,9 @@ impl Task {
         }
     }
 
-    /// A database, and once more without the rules that have an empty body, if it has any: those are refused here and vanish in the Rust.
     fn run_file(&mut self, path: &str) -> Result<(), String> {
-        let text = std::fs::read_to_string(path).map_err(|e| format!("{path}: {e}"))?;
-        let mut database = Database::read(&text).map_err(|e| format!("{path}: {e}"))?;
-        let name = path.rsplit('/').next().unwrap_or(path);
-        self.run(name, &database)?;
-        let before = database.rules.len();
-        database.rules.retain(|r| !r.body.is_empty());
-        if database.rules.len() < before {
-            self.run(&format!("{name} without its empty rule"), &database)?;
-        }
-        Ok(())
+        let both = Database::read_both(path)?;
+        both.iter().try_for_each(|(name, database)| self.run(name, database))
     }
 }
 
