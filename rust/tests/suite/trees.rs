@@ -62,7 +62,7 @@ fn parts_from_the_top_with_their_depth() {
 
 #[test]
 fn a_tree_deeper_than_the_stack() {
-    const DEPTH: usize = 1_000_000;
+    const DEPTH: usize = 100_000;
     let run = || {
         let rules = set_s();
         let tree = Formula::from_words([vec![1], vec![6; DEPTH]].concat())

@@ -1,8 +1,9 @@
-//! Times build, parse and verify: the proved library, the plain Rust with the same entry points, the plain Rust with rules and tables read
-//! once, and, with `--oracle [NAME=]COMMAND`, the published Rust behind its line driver. A benchmark and no test: it prints tables of
-//! medians and judges nothing, save that library and plain Rust must give the same answers. `--database FILE` names a Metamath database to
-//! take statements from.
+//! Times build, parse and verify, and reading and writing a package: the proved library, the plain Rust with the same entry points, for the
+//! former the plain Rust with rules and tables read once, and, with `--oracle [NAME=]COMMAND`, the published Rust behind its line driver. A
+//! benchmark and no test: it prints tables of medians and judges nothing, save that library and plain Rust must give the same answers.
+//! `--database FILE` names a Metamath database to take statements from.
 
+use jiehkavon::{NotASymbol, Package};
 use std::fmt::Write as _;
 use std::fs::File;
 use std::hint::black_box;
@@ -22,14 +23,19 @@ type Build = fn(u32, u32, &[u32], &mut [u32], &mut [u32]) -> [u32; 3];
 #[allow(clippy::type_complexity)]
 type Parse = fn(u32, u32, &[u32], &[u32], &[u32], &[u32], u32, &mut [u32], &mut [u32], &mut [u32]) -> [u32; 4];
 type Verify = fn(u32, u32, &[u32], &[u32], &[u32], &mut [u32]) -> u32;
+/// The number, and how many words of rules and of statements, or how many bytes.
+type Read = fn(&[u8], &mut [u32], &mut [u32]) -> (u32, usize, usize);
+type Write = fn(u32, u32, &[u32], &[u32], &mut [u8]) -> (u32, usize);
 
-/// Four entry points over words.
+/// The entry points over words.
 struct Core {
     name: &'static str,
     body: fn(u32, u32, &[u32], u32) -> u32,
     build: Build,
     parse: Parse,
     verify: Verify,
+    read: Read,
+    write: Write,
 }
 
 /// Both crates have functions of the same names, but each its own types for answers.
@@ -48,6 +54,14 @@ macro_rules! core {
                 [b.number, b.place, b.length, b.passes]
             },
             verify: |p, l, r, t, o, w| of::verify(p, l, r, t, o, w).number,
+            read: |b, r, s| {
+                let read = of::package_read(b, r, s);
+                (read.number, read.rules, read.words)
+            },
+            write: |p, l, r, s, b| {
+                let written = of::package_write(p, l, r, s, b);
+                (written.number, written.length)
+            },
         }
     }};
 }
@@ -178,6 +192,48 @@ impl Room {
         let (p, l, allowance) = (case.provable, case.logic, passes * n as u32);
         let a = (core.parse)(p, l, &case.rules, &case.nodes, &case.edges, tokens, allowance, f, o, w);
         (a, &list[..a[2] as usize])
+    }
+}
+
+/// A package, and what is in it.
+struct Packed {
+    package: Package,
+    bytes: Vec<u8>,
+}
+
+impl Packed {
+    fn new(package: Package) -> Self {
+        let bytes = package.write().expect("the rules are good");
+        Packed { package, bytes }
+    }
+}
+
+/// Nanoseconds of reading and of writing a package, with slices of the lengths that a caller would work out.
+impl Core {
+    fn read_package(&self, packed: &Packed) -> f64 {
+        let room = packed.bytes.len() / 4;
+        let (mut rules, mut statements) = (vec![0; room], vec![0; room]);
+        let (wanted_rules, wanted) = (packed.package.rules().words(), packed.package.words());
+        let read = (self.read)(&packed.bytes, &mut rules, &mut statements);
+        assert_eq!(read, (0, wanted_rules.len(), wanted.len()), "it is a package");
+        assert!(
+            rules.starts_with(wanted_rules) && statements.starts_with(wanted),
+            "it is the same one"
+        );
+        time(|| {
+            black_box((self.read)(&packed.bytes, &mut rules, &mut statements));
+        })
+    }
+
+    fn write_package(&self, packed: &Packed) -> f64 {
+        let (rules, statements) = (packed.package.rules(), packed.package.words());
+        let (p, l) = (rules.provable().word(), rules.logic().word());
+        let mut bytes = vec![0; packed.bytes.len()];
+        let written = (self.write)(p, l, rules.words(), statements, &mut bytes);
+        assert_eq!((written, &bytes), ((0, bytes.len()), &packed.bytes), "it is the same package");
+        time(|| {
+            black_box((self.write)(p, l, rules.words(), statements, &mut bytes));
+        })
     }
 }
 
@@ -446,6 +502,35 @@ impl Bench {
         );
     }
 
+    /// Reading and writing packages, and how that grows with their bytes.
+    fn packages(&self, title: &str, packages: impl Iterator<Item = Packed>) {
+        let sizes = texts(["statements", "bytes"]);
+        let times = texts([
+            "write, µs",
+            "plain",
+            "times plain",
+            "ns a byte",
+            "read, µs",
+            "plain",
+            "times plain",
+            "ns a byte",
+        ]);
+        let rows: Vec<Vec<String>> = packages.map(|packed| self.package_row(&packed)).collect();
+        table(title, &[sizes, times].concat(), &rows);
+    }
+
+    fn package_row(&self, packed: &Packed) -> Vec<String> {
+        let bytes = packed.bytes.len();
+        let cells = |library: f64, plain: f64| {
+            let (share, of_byte) = (format!("{:.2}", library / plain), format!("{:.2}", library / bytes as f64));
+            vec![micro(library), micro(plain), share, of_byte]
+        };
+        let sizes = [packed.package.len(), bytes].map(|size| size.to_string());
+        let write = cells(self.library.write_package(packed), self.plain.write_package(packed));
+        let read = cells(self.library.read_package(packed), self.plain.read_package(packed));
+        [sizes.to_vec(), write, read].concat()
+    }
+
     /// How the parts grow along one kind of size; each case has one statement.
     fn growth(&self, title: &str, cases: impl Iterator<Item = Case>) {
         let sizes = texts(["tokens", "rules", "rows", "passes"]);
@@ -520,14 +605,27 @@ fn sheet(bench: &Bench) {
     }
 }
 
+/// The package of a database's first statements: of so many parts, so many.
+fn packed(d: &Database, count: usize, of: usize) -> Result<Packed, NotASymbol> {
+    let mut package = Package::new(d.rules()?);
+    let some = &d.statements[..d.statements.len() * count / of];
+    some.iter().for_each(|statement| package.push(&statement.tokens));
+    Ok(Packed::new(package))
+}
+
 fn database(bench: &Bench, path: &str) -> Result<(), String> {
-    let text = std::fs::read_to_string(path).map_err(|e| format!("{path}: {e}"))?;
-    let d = Database::read(&text).map_err(|e| format!("{path}: {e}"))?;
+    let d = Database::read_file(path)?;
     let sample = d.statements.iter().step_by(STEP).map(|s| s.tokens.clone()).collect();
     let case = Case::new(d.provable, d.logic, d.rule_words(), sample);
     let name = path.rsplit('/').next().unwrap_or(path);
     let (columns, _) = bench.compare(&format!("{name}, one statement in {STEP}"), &case, [4, 4]);
     bench.parts(&case, &columns[0]);
+    let packages: Result<Vec<Packed>, NotASymbol> = [1, 2, 4, 8].into_iter().map(|count| packed(&d, count, 8)).collect();
+    let packages = packages.map_err(|why| format!("{path}: {why}"))?;
+    bench.packages(
+        &format!("**{name} as a package**, an eighth of its statements to all"),
+        packages.into_iter(),
+    );
     Ok(())
 }
 
