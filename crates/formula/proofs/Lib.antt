@@ -1,2 +1,3 @@
 pub mod Reducing
+pub mod Weaving
 pub mod Checking

@@ -1,30 +1,29 @@
 -- Trees in lent slices: sums, words moved, and what a reduce meets.
 use mathlib.Core.Path.{_≡_, refl, sym, ap, subst, _∙_}
 use mathlib.Core.List.{List, [], _∷_, _++_, append-assoc, append-nil}
-use Prim.Native.Nat.{ℕ, zero, suc, _+_, _-_, _≤_, _<_}
+use Prim.Native.Nat.{ℕ, _+_, _-_, _≤_, _<_}
 use native.Mathlib.Omega.{arith}
 use native.Mathlib.Numerals.{add-one}
-use native.Mathlib.Nat.{sub-zero}
-use lib.ListN.{length, getD, take, drop, set, length-append, length-drop, length-map, drop-of-length-le, length-set}
-use lib.Seq.{drop-cons, take-suc, take-suc-set, drop-set-lt, drop-append-le, length-take-le, getD-drop, drop-drop, take-at, drop-at, take-append-le, take-take, take-add, take-nil, split-at}
+use lib.ListN.{length, getD, take, drop, set, length-append, length-drop, drop-of-length-le, length-set}
+use lib.Seq.{drop-cons, take-suc, take-suc-set, drop-set-lt, drop-append-le, length-take-le, getD-drop, drop-drop, take-at, drop-at, take-append-le, take-take, take-add}
 use Rattle.words.specs.Lent.{inserted}
-use Rattle.words.specs.Limits.{mostReduces}
-use Rattle.words.specs.Outcome.{ok}
-use Rattle.words.specs.Numbers.{misfit, noEntry}
+use Rattle.words.specs.Outcome.{Res, ok, bind}
+use Rattle.words.specs.Numbers.{Why}
 use Rattle.rules.specs.Rules.{Rule, ruleOf, theRules, slots}
 use Rattle.rules.specs.Code.{Starts, Missing}
-use Rattle.rows.specs.Rows.{Reduce}
-use Rattle.rows.specs.Code.{reduceIs, edgeIs}
 use Rattle.rows.specs.declared.Reduce as coded
 use Rattle.rows.specs.declared.Edge as edge
-use Rattle.formula.specs.Reducing.{Trees, flat, merge, reduce, reduceAll}
-use Rattle.formula.specs.Code.{treesOf, Inside, Stands, Gives}
+use Rattle.formula.specs.Reducing.{reduce}
+use Rattle.formula.specs.Code.{treesOf, Inside, Gives}
 use Rattle.formula.specs.declared.Trees as held
-use Rattle.formula.specs.declared.Reduced.{Reduced}
 use Rattle.formula.specs.declared.Reduced.the-variants.{Done, TooFew, Full}
-use Rattle.formula.specs.laws.Reduce.{reduce-no-rule, reduce-few, reduce-full, reduce-fits, reduceAll-no, reduceAll-ok}
-use Rattle.formula.specs.laws.Flat.{total, total-append, stacked, place-stacked, stacked-merge, inserted-merge, length-merge}
-use Rattle.formula.specs.laws.Held.{stands, trees-count, trees-length, sizes-total}
+use Rattle.formula.specs.Tail.{total, Measured, joined, measure}
+use Rattle.formula.specs.TailCode.{Sized, Joins, Measures}
+use Rattle.formula.specs.declared.sizes.Fit.{Fit}
+use Rattle.formula.specs.declared.sizes.Fit.the-variants as fit
+use Rattle.formula.specs.laws.Flat.{drop-take, total-append}
+use Rattle.formula.specs.laws.Held.{sizes-total, cut-flat, cut-sizes}
+use Rattle.formula.specs.laws.Tail.{measure-no-rule, measure-few, measure-full, measure-fits, joined-place, joined-total, putIn, cut, after, reduce-cut}
 
 -- ---- a sum, from word i on
 
@@ -92,13 +91,7 @@ replaced ws v u n at k x e f h b =
     let q : n + 1 - k ≡ at + (n + 1 - p) = omega arith in
     rw q (f ∙ rw (t, a, drop-at (take p ws) (x ∷ drop p (take n ws)) p lp))
 
--- ---- trees merged
-
-drop-take : (a n : ℕ) (ws : List ℕ) → drop a (take n ws) ≡ take (n - a) (drop a ws)
-drop-take zero n ws = rw sub-zero
-drop-take (suc a) zero ws = let e : 0 - suc a ≡ 0 = omega arith in rw e
-drop-take (suc a) (suc n) [] = sym (take-nil (suc n - suc a))
-drop-take (suc a) (suc n) (w ∷ ws) = let e : suc n - suc a ≡ n - a = omega arith in rw e (drop-take a n ws)
+-- ---- trees joined
 
 total-parts : (ws : List ℕ) (a n : ℕ) → a ≤ n → total (take (n - a) (drop a ws)) + total (take a ws) ≡ total (take n ws)
 total-parts ws a n h =
@@ -107,7 +100,10 @@ total-parts ws a n h =
     ap (λ (m : ℕ). total (take m ws)) e ∙ ap total (take-add a (n - a) ws) ∙ total-append (take a ws) (take (n - a) (drop a ws)) in
     omega (arith, t)
 
-module _ (room k o : ℕ) (s : held.Trees) (ls ws : List ℕ) (i : Inside room s ls ws) (h : o + k ≤ s .count) where
+measured : {p q : ℕ} {xs ys : List ℕ} → p ≡ q → xs ≡ ys → _≡_ {A = Measured} (record { place = p; sizes = xs }) (record { place = q; sizes = ys })
+measured e f = λ i. record { place = e i; sizes = f i }
+
+module _ (room k o : ℕ) (s : held.Trees) (ws : List ℕ) (i : Sized room s ws) (h : o + k ≤ s .count) where
   -- the trees under the top o, and those below the k under them
   abbrev under : ℕ
   under = s .count - o
@@ -122,108 +118,133 @@ module _ (room k o : ℕ) (s : held.Trees) (ls ws : List ℕ) (i : Inside room s
   middle = total (take (under - below) (drop below ws))
 
   pub top-sum : top + total (take under ws) ≡ s .len
-  top-sum = total-parts ws under (s .count) (omega arith) ∙ sizes-total room s ls ws i
+  top-sum = total-parts ws under (s .count) (omega arith) ∙ i .sum
 
   pub middle-sum : middle + total (take below ws) ≡ total (take under ws)
   middle-sum = total-parts ws below under (omega arith)
 
-  count-is : length (treesOf s ls ws) ≡ under + o
-  count-is = trees-count room s ls ws i ∙ omega arith
-
-  -- the words of the trees under the top o
-  place-is : length (flat (drop o (treesOf s ls ws))) ≡ s .len - top
-  place-is =
-      sym (place-stacked under o (treesOf s ls ws) count-is) ∙ rw (i .sizes, take-take under (s .count) ws (omega arith)) (omega (arith, top-sum))
-
-  list-is : (r : ℕ) (ls′ : List ℕ) → s .len < length ls → ls′ ≡ inserted ls (s .len) (s .len - top) r → flat (merge r k o (treesOf s ls ws)) ≡ take (s .len + 1) ls′
-  list-is r ls′ b e =
-      let ts = treesOf s ls ws in
-      let zs = drop (suc (s .len)) ls in
-      let w : ls ≡ flat ts ++ getD ls (s .len) 0 ∷ zs = rw (i .list) (split-at ls (s .len) 0 b) in
-      let n : length (flat ts) ≡ s .len = trees-length room s ls ws i in
-      let p = s .len - top in
-      let m : inserted ls (s .len) p r ≡ flat (merge r k o ts) ++ zs =
-      ap (λ (l : List ℕ). inserted l (s .len) p r) w
-      ∙ ap (λ (m : ℕ). inserted (flat ts ++ getD ls (s .len) 0 ∷ zs) m p r) (sym n)
-      ∙ inserted-merge r k o p (getD ls (s .len) 0) ts zs place-is in
-      sym (ap (take (s .len + 1)) (e ∙ m) ∙ (take-at (flat (merge r k o ts)) zs (s .len + 1) (length-merge r k o ts ∙ omega (arith, n))))
-
-  sizes-are : (r : ℕ) (ws′ : List ℕ) → take (s .count + 1 - k) ws′ ≡ take below ws ++ (middle + 1) ∷ drop (below + k) (take (s .count) ws)
-      → stacked (merge r k o (treesOf s ls ws)) ≡ take (s .count + 1 - k) ws′
-  sizes-are r ws′ e =
-      let ts = treesOf s ls ws in
+  pub joins : (ws′ : List ℕ) → take (s .count + 1 - k) ws′ ≡ take below ws ++ (middle + 1) ∷ drop (below + k) (take (s .count) ws)
+      → Joins s k o ws (s .len - top) ws′
+  joins ws′ e =
+      let zs = take (s .count) ws in
+      let a : s .count - (o + k) ≡ below = omega arith in
+      let u : below + k ≡ under = omega arith in
       let q : under - below ≡ k = omega arith in
-      let m : total (take k (drop below (take (s .count) ws))) ≡ middle =
+      let p : s .len - top ≡ total (take (below + k) zs) = rw (u, take-take under (s .count) ws (omega arith)) (omega (arith, top-sum)) in
+      let m : total (take k (drop below zs)) ≡ middle =
       ap (λ (l : List ℕ). total l) (ap (take k) (drop-take below (s .count) ws) ∙ take-take k (s .count - below) (drop below ws) (omega arith)) ∙ rw q in
-      stacked-merge r k o below ts (count-is ∙ omega arith)
-      ∙ rw (i .sizes, take-take below (s .count) ws (omega arith), m) (rw (add-one middle) at (sym e))
+      rw a (measured p (e ∙ rw (take-take below (s .count) ws (omega arith), m, add-one middle)))
 
-  pub merged : (r : ℕ) (ls′ ws′ : List ℕ) → s .len < room → ls′ ≡ inserted ls (s .len) (s .len - top) r
-      → take (s .count + 1 - k) ws′ ≡ take below ws ++ (middle + 1) ∷ drop (below + k) (take (s .count) ws)
-      → length ls′ ≡ length ls → length ws′ ≡ length ws
-      → Stands room (record { count = s .count + 1 - k; len = s .len + 1 }) ls′ ws′ (merge r k o (treesOf s ls ws))
-  merged r ls′ ws′ b e f l w =
-      stands room (record { count = s .count + 1 - k; len = s .len + 1 }) ls′ ws′ (merge r k o (treesOf s ls ws))
-      (list-is r ls′ (omega (arith, i .lent)) e) (sizes-are r ws′ f)
-      (omega (arith, i .few)) (omega arith) (omega (arith, i .lent), omega (arith, i .lent)) (i .words)
+-- ---- a reduce on the sizes, by what it meets
 
--- ---- a reduce, by what it meets
+module _ (room : ℕ) (rs : List ℕ) (r o : ℕ) (s : held.Trees) (ws ws′ : List ℕ) where
+  pub measures-none : Missing rs r → Measures room s fit.TooFew ws′ (measure (theRules rs) room r o (take (s .count) ws))
+  measures-none m = record { outcome = sym (measure-no-rule (theRules rs) room r o (take (s .count) ws) (m .unnamed)); sized = tt }
 
-module _ (room : ℕ) (rs : List ℕ) (r o : ℕ) (s : held.Trees) (ls ws : List ℕ) where
-  pub gives-none : Missing rs r → Gives room TooFew ls ws (reduce (theRules rs) room r o (treesOf s ls ws))
-  gives-none m = record { outcome = sym (reduce-no-rule (theRules rs) room r o (treesOf s ls ws) (m .unnamed)); inside = tt }
+  module _ (i : Sized room s ws) (j k : ℕ) (b : Starts rs r j) (e : k ≡ slots (ruleOf (drop j rs) .body)) where
+    length-sizes : length (take (s .count) ws) ≡ s .count
+    length-sizes = length-take-le (s .count) ws (omega (arith, i .few, i .fits, i .lent))
 
-  module _ (i : Inside room s ls ws) (j k : ℕ) (b : Starts rs r j) (e : k ≡ slots (ruleOf (drop j rs) .body)) where
-    pub gives-few : s .count < o + k → Gives room TooFew ls ws (reduce (theRules rs) room r o (treesOf s ls ws))
-    gives-few h =
-        let n = trees-count room s ls ws i in
-        record { outcome = sym (reduce-few (theRules rs) room r o (treesOf s ls ws) (ruleOf (drop j rs)) (b .named) (omega (arith, n, e))); inside = tt }
-
-    pub gives-full : o + k ≤ s .count → room ≤ s .len → Gives room Full ls ws (reduce (theRules rs) room r o (treesOf s ls ws))
-    gives-full h f =
-        let n = trees-count room s ls ws i in
-        let m = trees-length room s ls ws i in
+    pub measures-few : s .count < o + k → Measures room s fit.TooFew ws′ (measure (theRules rs) room r o (take (s .count) ws))
+    measures-few h =
         record {
-          outcome = sym (reduce-full (theRules rs) room r o (treesOf s ls ws) (ruleOf (drop j rs)) (b .named) (omega (arith, n, e)) (omega (arith, m)));
-          inside = tt;
+          outcome = sym (measure-few (theRules rs) room r o (take (s .count) ws) (ruleOf (drop j rs)) (b .named) (omega (arith, length-sizes, e)));
+          sized = tt;
         }
 
-    pub gives-done : (t : held.Trees) (ls′ ws′ : List ℕ) → o + k ≤ s .count → s .len < room → Stands room t ls′ ws′ (merge r k o (treesOf s ls ws))
-        → Gives room (Done t) ls′ ws′ (reduce (theRules rs) room r o (treesOf s ls ws))
-    gives-done t ls′ ws′ h f d =
-        let n = trees-count room s ls ws i in
-        let m = trees-length room s ls ws i in
-        let q = reduce-fits (theRules rs) room r o (treesOf s ls ws) (ruleOf (drop j rs)) (b .named) (omega (arith, n, e)) (omega (arith, m)) in
-        record { outcome = ap (λ ts. ok ts) (d .are) ∙ rw (← e) at (sym q); inside = d .inside }
+    pub measures-full : o + k ≤ s .count → room ≤ s .len → Measures room s fit.Full ws′ (measure (theRules rs) room r o (take (s .count) ws))
+    measures-full h f =
+        record {
+          outcome = sym (measure-full (theRules rs) room r o (take (s .count) ws) (ruleOf (drop j rs)) (b .named) (omega (arith, length-sizes, e)) (omega (arith, i .sum)));
+          sized = tt;
+        }
 
--- ---- the reduces of an edge, from number k on
+    pub measures-fits : (p : ℕ) → o + k ≤ s .count → s .len < room → Joins s k o ws p ws′ → length ws′ ≡ length ws
+        → Measures room s (fit.At p (record { count = s .count + 1 - k; len = s .len + 1 })) ws′ (measure (theRules rs) room r o (take (s .count) ws))
+    measures-fits p h f d n =
+        let zs = take (s .count) ws in
+        let a = s .count - (o + k) in
+        let q : measure (theRules rs) room r o zs ≡ ok (joined a k zs) =
+        rw (length-sizes, ← e) at (measure-fits (theRules rs) room r o zs (ruleOf (drop j rs)) (b .named) (omega (arith, length-sizes, e)) (omega (arith, i .sum))) in
+        let x : p ≡ joined a k zs .place = ap (λ (m : Measured). m .place) d in
+        let y : take (s .count + 1 - k) ws′ ≡ joined a k zs .sizes = ap (λ (m : Measured). m .sizes) d in
+        record {
+          outcome = ap (λ m. ok m) d ∙ sym q;
+          sized = (
+            record {
+              sum = ap total y ∙ joined-total a k zs ∙ omega (arith, i .sum);
+              few = omega (arith, i .few);
+              fits = omega arith;
+              lent = omega (arith, i .lent);
+              words = i .words;
+            },
+            refl,
+            omega (arith, x, joined-place a k zs, i .sum),
+          );
+        }
 
-module _ (room : ℕ) (R : List Rule) (ds : List Reduce) (k : ℕ) (d : coded.Reduce) (h : k < length ds)
-    (e : reduceIs d ≡ getD ds k (record { rule = 0; offset = 0 })) where
-  split : drop k ds ≡ reduceIs d ∷ drop (k + 1) ds
-  split = drop-cons ds k (record { rule = 0; offset = 0 }) h ∙ rw (e, add-one)
+-- an answer that is known
+pub fit-is : {room : ℕ} {s : held.Trees} {ws : List ℕ} {o : Res Why Measured} (f g : Fit) → f ≡ g → Measures room s f ws o → Measures room s g ws o
+fit-is {room} {s} {ws} {o} f g e m = subst (λ f. Measures room s f ws o) e m
 
-  module _ (ts : Trees) (r : Reduced) (ls ws : List ℕ) (g : Gives room r ls ws (reduce R room (d .rule .0) (d .offset) ts)) where
-    pub all-on : (t : held.Trees) → r ≡ Done t
-        → (reduceAll R room (drop k ds) ts ≡ reduceAll R room (drop (k + 1) ds) (treesOf t ls ws)) × Inside room t ls ws
-    all-on t q =
-        let f = subst (λ r. Gives room r ls ws (reduce R room (d .rule .0) (d .offset) ts)) q g in
-        (rw split (reduceAll-ok R room (reduceIs d) (drop (k + 1) ds) ts (treesOf t ls ws) (sym (f .outcome))), f .inside)
+-- ---- the trees whose sizes those are
 
-    pub all-few : r ≡ TooFew → Gives room TooFew ls ws (reduceAll R room (drop k ds) ts)
-    all-few q =
-        let f = subst (λ r. Gives room r ls ws (reduce R room (d .rule .0) (d .offset) ts)) q g in
-        record { outcome = sym (rw split (reduceAll-no R room (reduceIs d) (drop (k + 1) ds) ts misfit (sym (f .outcome)))); inside = tt }
+module _ (room : ℕ) (s : held.Trees) (ls ws : List ℕ) where
+  pub sized-of : Inside room s ls ws → Sized room s ws
+  sized-of i = record { sum = sizes-total room s ls ws i; few = i .few; fits = i .fits; lent = i .lent .1; words = i .words }
 
-    pub all-full : r ≡ Full → Gives room Full ls ws (reduceAll R room (drop k ds) ts)
-    all-full q =
-        let f = subst (λ r. Gives room r ls ws (reduce R room (d .rule .0) (d .offset) ts)) q g in
-        record { outcome = sym (rw split (reduceAll-no R room (reduceIs d) (drop (k + 1) ds) ts noEntry (sym (f .outcome)))); inside = tt }
+  -- with so many words, the list is as long as the sizes say
+  pub sized-length : Sized room s ws → room ≤ length ls → total (take (s .count) ws) ≡ length (take (s .len) ls)
+  sized-length z h = z .sum ∙ sym (length-take-le (s .len) ls (omega (arith, z .fits)))
 
-pub all-end : (room : ℕ) (R : List Rule) (ds : List Reduce) (k : ℕ) (ts : Trees) → length ds ≤ k → reduceAll R room (drop k ds) ts ≡ ok ts
-unfolding reduceAll
-all-end room R ds k ts h = rw (drop-of-length-le ds h)
+  pub inside-of : Sized room s ws → room ≤ length ls → Inside room s ls ws
+  unfolding treesOf
+  inside-of z h =
+      let e = sized-length z h in
+      record {
+        list = cut-flat (take (s .count) ws) (take (s .len) ls) e;
+        sizes = cut-sizes (take (s .count) ws) (take (s .len) ls) e;
+        few = z .few;
+        fits = z .fits;
+        lent = (h, z .lent);
+        words = z .words;
+      }
 
--- an edge has as many reduces as its count says
-pub reduces-count : (e : edge.Edge) → length (e .reduces) ≡ mostReduces → e .count ≤ mostReduces → length (edgeIs e .reduces) ≡ e .count
-reduces-count e h k = length-map (take (e .count) (e .reduces)) reduceIs ∙ length-take-le (e .count) (e .reduces) (omega arith)
+-- the words that an insertion leaves
+pub taken-inserted : (ws : List ℕ) (n p x : ℕ) → p ≤ n → n < length ws → take (n + 1) (inserted ws n p x) ≡ putIn p x (take n ws)
+taken-inserted ws n p x h k =
+    let up = take p ws ++ x ∷ drop p (take n ws) in
+    let l : length up ≡ n + 1 =
+    length-append (take p ws) (x ∷ drop p (take n ws)) ∙ omega (arith, length-take-le p ws (omega arith), length-drop p (take n ws), length-take-le n ws (omega arith)) in
+    ap (take (n + 1)) (sym (append-assoc (take p ws) (x ∷ drop p (take n ws)) (drop (n + 1) ws)))
+    ∙ take-at up (drop (n + 1) ws) (n + 1) l
+    ∙ ap (λ (y : List ℕ). y ++ x ∷ drop p (take n ws)) (sym (take-take p n ws h))
+
+-- ---- a reduce in the list too
+
+module _ (R : List Rule) (room r o : ℕ) (s : held.Trees) (ls ws : List ℕ) (i : Inside room s ls ws) where
+  reduced-is : reduce R room r o (treesOf s ls ws) ≡ bind (measure R room r o (take (s .count) ws)) λ m. ok (after r (take (s .len) ls) m)
+  unfolding treesOf
+  reduced-is = reduce-cut R room r o (take (s .count) ws) (take (s .len) ls) (sized-length room s ls ws (sized-of room s ls ws i) (i .lent .0))
+
+  module _ (f : Fit) (ls′ ws′ : List ℕ) (m : Measures room s f ws′ (measure R room r o (take (s .count) ws))) where
+    pub gives-few : f ≡ fit.TooFew → Gives room TooFew ls′ ws′ (reduce R room r o (treesOf s ls ws))
+    unfolding bind
+    gives-few e = record { outcome = sym (reduced-is ∙ rw (← m .outcome, e)); inside = tt }
+
+    pub gives-full : f ≡ fit.Full → Gives room Full ls′ ws′ (reduce R room r o (treesOf s ls ws))
+    unfolding bind
+    gives-full e = record { outcome = sym (reduced-is ∙ rw (← m .outcome, e)); inside = tt }
+
+    pub gives-done : (p : ℕ) (t : held.Trees) → f ≡ fit.At p t → ls′ ≡ inserted ls (s .len) p r → length ls′ ≡ length ls
+        → Gives room (Done t) ls′ ws′ (reduce R room r o (treesOf s ls ws))
+    unfolding bind treesOf
+    gives-done p t e g n =
+        let d = fit-is f (fit.At p t) e m in
+        let z = d .sized in
+        let x : take (t .len) ls′ ≡ putIn p r (take (s .len) ls) =
+        rw (z .1, g) (taken-inserted ls (s .len) p r (z .2) (omega (arith, z .0 .fits, z .1, i .lent))) in
+        record {
+          outcome = ap (λ (l : List ℕ). ok (cut (take (t .count) ws′) l)) x ∙ sym (reduced-is ∙ rw (← d .outcome));
+          inside = inside-of room t ls′ ws′ (z .0) (omega (arith, n, i .lent));
+        }

@@ -4,4 +4,5 @@ pub mod Turns
 pub mod Flat
 pub mod Reduce
 pub mod Held
+pub mod Tail
 pub mod Examples

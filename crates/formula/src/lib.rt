@@ -1,17 +1,19 @@
 // A formula's postfix list in lent slices: reducing, and the check.
+mod sizes;
+mod tail;
+
 ghost use mathlib.Core.Path.{_≡_};
 ghost use mathlib.Core.Bool.{true};
 ghost use mathlib.Core.List.{[], _∷_, _++_};
-ghost use Prim.Native.Nat.{_+_, _-_, _≤_, _<_};
+ghost use Prim.Native.Nat.{_+_, _-_, _≤_};
 ghost use lib.ListN.{length, take, drop};
 ghost use Rattle.words.specs.Limits.{mostReduces};
 ghost use Rattle.rules.specs.Rules.{ruleOf, theRules};
 ghost use Rattle.rules.specs.Code.{aRule, someRules, itemIs};
 ghost use Rattle.rows.specs.Code.{edgeIs};
-ghost use Rattle.formula.specs.Reducing.{merge, reduce, reduceAll};
+ghost use Rattle.formula.specs.Reducing.{reduce, reduceAll};
 ghost use Rattle.formula.specs.Check.{check};
-ghost use Rattle.formula.specs.Code.{mostRoom, treesOf, Inside, Stands, Gives, Whole, Stacked, Turned, Fills, Meets, stillOf};
-ghost use Rattle.formula.specs.laws.Flat.{total};
+ghost use Rattle.formula.specs.Code.{treesOf, Inside, Gives, Whole, Stacked, Turned, Fills, Meets, stillOf};
 
 // The trees of a walk. The first `len` words of the list are theirs, the first `count` words of the work slice their sizes, the bottom
 // tree's first.
@@ -28,69 +30,6 @@ pub enum Reduced {
 
 // ---- reducing
 
-fn total(sizes: &[u32]) -> u32
-    requires { ⌜ total (now sizes) ≤ mostRoom ⌝ }
-    ensures { λ r. ⌜ r ≡ total (now (sizes .entry)) ⌝ }
-{
-    let mut n: u32 = 0;
-    let mut i = 0;
-    while i < sizes.len() {
-        n += sizes[i];
-        i += 1;
-    }
-    n
-}
-
-// The words from `from` on, of the first `n`, come to stand at `to`.
-fn move_down(s: &mut [u32], n: usize, from: usize, to: usize)
-    requires { ⌜ (to ≤ from) × (from ≤ n) × (n ≤ length (now s)) ⌝ }
-    ensures { λ _. ⌜ take (to + (n - from)) (now (s .exit)) ≡ take to (now (s .entry)) ++ drop from (take n (now (s .entry))) ⌝ }
-{
-    let mut i = from;
-    let mut j = to;
-    while i < n {
-        s[j] = s[i];
-        i += 1;
-        j += 1;
-    }
-}
-
-// Of the first `count` sizes, the `k` from `at` on become one.
-fn replace(work: &mut [u32], count: usize, at: usize, k: usize, size: u32)
-    requires { ⌜ (at + k ≤ count) × (count < length (now work)) ⌝ }
-    ensures { λ _. ⌜ take (count + 1 - k) (now (work .exit)) ≡ take at (now (work .entry)) ++ size ∷ drop (at + k) (take count (now (work .entry))) ⌝ }
-{
-    words::insert(work, count, at + k, size);
-    move_down(work, count + 1, at + k, at);
-}
-
-// The `k` trees under the top `o` become one, of this rule.
-fn merge(
-    room: usize,
-    list: &mut [u32],
-    work: &mut [u32],
-    s: Trees,
-    rule: words::RuleNo,
-    k: usize,
-    o: usize,
-) -> Trees
-    requires { ⌜ Inside room s (now list) (now work) × (o + k ≤ s .count) × (s .len < room) ⌝ }
-    ensures { λ r. ⌜ Stands room r (now (list .exit)) (now (work .exit)) (merge (rule .0) k o (treesOf s (now (list .entry)) (now (work .entry)))) ⌝ }
-{
-    let count = s.count;
-    let len = s.len;
-    let under = count - o;
-    let below = under - k;
-    let place = len - (total(&work[under..count]) as usize);
-    let size = total(&work[below..under]) + 1;
-    words::insert(list, len, place, rule.0);
-    replace(work, count, below, k, size);
-    Trees {
-        count: count + 1 - k,
-        len: len + 1,
-    }
-}
-
 // The rule is reduced under the top `offset` trees: too few trees before a full list. A rule that is not there has too few.
 pub fn reduce(
     rules: &[u32],
@@ -105,23 +44,18 @@ pub fn reduce(
     ensures { λ r. ⌜ Gives room r (now (list .exit)) (now (work .exit))
         (reduce (theRules (now (rules .entry))) room (rule .0) offset (treesOf s (now (list .entry)) (now (work .entry)))) ⌝ }
 {
-    let rules::Start::At(i) = rules::find_rule(rules, rule) else {
-        return Reduced::TooFew;
-    };
-    let k = rules::slots_of(&rules[i..]) as usize;
-    let o = offset as usize;
-    let needed = o + k;
-    if s.count < needed {
-        return Reduced::TooFew; // for its slots and the offset
+    let fit = sizes::measure(rules, room, work, s, rule, offset);
+    match fit {
+        sizes::Fit::At(place, t) => {
+            words::insert(list, s.len, place, rule.0);
+            Reduced::Done(t)
+        }
+        sizes::Fit::TooFew => Reduced::TooFew,
+        sizes::Fit::Full => Reduced::Full,
     }
-    if room <= s.len {
-        return Reduced::Full; // for the rule itself
-    }
-    let t = merge(room, list, work, s, rule, k, o);
-    Reduced::Done(t)
 }
 
-// The reduces of an edge, in order: the first that fails decides.
+// The reduces of an edge, in order: the first that fails decides. The list's tail is moved once.
 pub fn reduce_all(
     rules: &[u32],
     room: usize,
@@ -134,26 +68,14 @@ pub fn reduce_all(
     ensures { λ r. ⌜ Gives room r (now (list .exit)) (now (work .exit))
         (reduceAll (theRules (now (rules .entry))) room (edgeIs e .reduces) (treesOf s (now (list .entry)) (now (work .entry)))) ⌝ }
 {
-    let n = e.count as usize;
-    let mut out = s;
-    let mut k: usize = 0;
-    while k < n {
-        let d = rows::reduce_of(e, k);
-        let r = reduce(rules, room, list, work, out, d.rule, d.offset);
-        match r {
-            Reduced::Done(t) => {
-                out = t;
-            }
-            Reduced::TooFew => {
-                return Reduced::TooFew;
-            }
-            Reduced::Full => {
-                return Reduced::Full;
-            }
-        }
-        k += 1;
+    if e.count == 0 {
+        return Reduced::Done(s);
     }
-    Reduced::Done(out)
+    if e.count == 1 {
+        let d = rows::reduce_of(e, 0);
+        return reduce(rules, room, list, work, s, d.rule, d.offset); // alone, it needs no plan
+    }
+    tail::reduce_at_once(rules, room, list, work, s, e)
 }
 
 // ---- the check

@@ -2,13 +2,13 @@
 use Prim.Native.Nat.{ℕ, zero, suc, _+_, _-_, _≤_, _<_}
 use mathlib.Core.Path.{_≡_, sym, ap, _∙_}
 use mathlib.Core.List.{List, [], _∷_, _++_, append-nil, append-assoc}
-use native.Mathlib.Numerals.{add-one}
 use native.Mathlib.Nat.{le-antisymm}
 use native.Mathlib.Omega.{arith}
-use lib.ListN.{length, take, drop, set, getD, replicate, length-drop, length-append, drop-of-length-le, take-append-drop, List·getD-append}
-use lib.Seq.{drop-cons, take-suc, set-at, length-take-le, take-all, take-at, getD-take}
+use lib.ListN.{length, take, drop, set, getD, replicate, length-drop, drop-of-length-le, take-append-drop, List·getD-append}
+use lib.Seq.{drop-cons, take-suc, set-at, length-take-le, getD-take}
 use borrow.Author.Fill.{fill-more}
 use borrow.Rule.Slice.PartMut.{putMid}
+use Rattle.words.specs.Lent.{movedUp, inserted}
 
 -- a turn that stores 0 at i
 pub cleared-more : (s s₀ : List ℕ) (i : ℕ) → s ≡ replicate i 0 ++ drop i s₀ → i < length s₀ → set s i 0 ≡ replicate (i + 1) 0 ++ drop (i + 1) s₀
@@ -34,39 +34,33 @@ cleared-from xs ys a e h =
     ∙ ap (λ (r : List ℕ). take a xs ++ r) (e ∙ ap (λ (n : ℕ). replicate n 0)
     (length-take-le (length xs - a) (drop a xs) (simp length-drop (omega arith)) ∙ ap (λ (n : ℕ). length xs - n) (sym (length-take-le a xs h))))
 
--- ---- an element put in, with those above it moved up
+-- ---- words moved up, the last of them first, and an element put in
 
--- the first n elements from k on moved up by one
-abbrev pub moved : List ℕ → ℕ → ℕ → List ℕ
-moved s n k = take (k + 1) s ++ (drop k (take n s) ++ drop (n + 1) s)
+pub moved-none : (s : List ℕ) (n by : ℕ) → n + by ≤ length s → s ≡ movedUp s n n by
+moved-none s n by h =
+    sym (ap (λ (r : List ℕ). take (n + by) s ++ (r ++ drop (n + by) s)) (drop-of-length-le (take n s) {i = n} (omega (arith, length-take-le n s (omega arith)))) ∙ take-append-drop (n + by) s)
 
-pub moved-none : (s : List ℕ) (n : ℕ) → n < length s → s ≡ moved s n n
-moved-none s n h =
-    sym (ap (λ (r : List ℕ). take (n + 1) s ++ (r ++ drop (n + 1) s)) (drop-of-length-le (take n s) {i = n} (omega (arith, length-take-le n s (omega arith)))) ∙ take-append-drop (n + 1) s)
+-- what stands below the words moved is as it was
+moved-split : (s : List ℕ) (k n by j : ℕ) → k + by ≡ suc j → j < length s
+    → movedUp s k n by ≡ take j s ++ (getD s j 0 ∷ (drop k (take n s) ++ drop (n + by) s))
+moved-split s k n by j e h =
+    rw (e, take-suc s j 0 h) (append-assoc (take j s) (getD s j 0 ∷ []) (drop k (take n s) ++ drop (n + by) s))
 
--- what stands at and below k is as it was
-moved-split : (s : List ℕ) (n k : ℕ) → k < length s → moved s n k ≡ take k s ++ (getD s k 0 ∷ (drop k (take n s) ++ drop (n + 1) s))
-moved-split s n k h =
-    rw (add-one, take-suc s k 0 h) (append-assoc (take k s) (getD s k 0 ∷ []) (drop k (take n s) ++ drop (n + 1) s))
-
-pub moved-more : (s : List ℕ) (n k : ℕ) → 0 < k → k ≤ n → n < length s → set (moved s n k) k (getD (moved s n k) (k - 1) 0) ≡ moved s n (k - 1)
-moved-more s n zero z h b = absurd (omega arith)
-moved-more s n (suc j) z h b =
+-- a turn
+pub moved-more : (s : List ℕ) (k n by : ℕ) → 0 < k → k ≤ n → n + by ≤ length s
+    → set (movedUp s k n by) (k - 1 + by) (getD (movedUp s k n by) (k - 1) 0) ≡ movedUp s (k - 1) n by
+moved-more s zero n by z h b = absurd (omega arith)
+moved-more s (suc j) n by z h b =
     let one : suc j - 1 ≡ j = omega arith in
-    let rest = drop (suc j) (take n s) ++ drop (n + 1) s in
-    let below : getD (moved s n (suc j)) j 0 ≡ getD s j 0 =
-    List·getD-append (take (suc j + 1) s) rest 0 j (omega (arith, length-take-le (suc j + 1) s (omega arith))) ∙ getD-take (suc j + 1) s j 0 (omega arith) in
+    let rest = drop (suc j) (take n s) ++ drop (n + by) s in
+    let below : getD (movedUp s (suc j) n by) j 0 ≡ getD s j 0 =
+    List·getD-append (take (suc j + by) s) rest 0 j (omega (arith, length-take-le (suc j + by) s (omega arith))) ∙ getD-take (suc j + by) s j 0 (omega arith) in
     let cut : drop j (take n s) ≡ getD s j 0 ∷ drop (suc j) (take n s) =
     drop-cons (take n s) j 0 (omega (arith, length-take-le n s (omega arith))) ∙ rw (getD-take n s j 0 (omega arith)) in
-    rw (one, below)
-    (ap (λ (r : List ℕ). set r (suc j) (getD s j 0)) (moved-split s n (suc j) (omega arith))
-    ∙ set-at (take (suc j) s) (getD s (suc j) 0) rest (getD s j 0) (suc j) (length-take-le (suc j) s (omega arith))
-    ∙ sym (ap (λ (r : List ℕ). take (j + 1) s ++ (r ++ drop (n + 1) s)) cut ∙ ap (λ (m : ℕ). take m s ++ (getD s j 0 ∷ rest)) (add-one j)))
+    rw (one, below, moved-split s (suc j) n by (j + by) (omega arith) (omega arith), cut)
+    (set-at (take (j + by) s) (getD s (j + by) 0) rest (getD s j 0) (j + by) (length-take-le (j + by) s (omega arith)))
 
-pub moved-done : (s : List ℕ) (n k : ℕ) (x : ℕ) → k < length s → set (moved s n k) k x ≡ take k s ++ (x ∷ (drop k (take n s) ++ drop (n + 1) s))
-moved-done s n k x h = rw (moved-split s n k h) (set-at (take k s) (getD s k 0) (drop k (take n s) ++ drop (n + 1) s) x k (length-take-le k s (omega arith)))
-
-pub moved-length : (s : List ℕ) (n k : ℕ) → k ≤ n → n < length s → length (moved s n k) ≡ length s
-moved-length s n k h b =
-    length-append (take (k + 1) s) (drop k (take n s) ++ drop (n + 1) s)
-    ∙ omega (arith, length-take-le (k + 1) s (omega arith), length-append (drop k (take n s)) (drop (n + 1) s), length-drop k (take n s), length-take-le n s (omega arith), length-drop (n + 1) s)
+-- x where the words moved up by one stood first
+pub moved-done : (s : List ℕ) (k n x : ℕ) → k < length s → set (movedUp s k n 1) k x ≡ inserted s n k x
+moved-done s k n x h =
+    rw (moved-split s k n 1 k (omega arith) h) (set-at (take k s) (getD s k 0) (drop k (take n s) ++ drop (n + 1) s) x k (length-take-le k s (omega arith)))

@@ -1,8 +1,8 @@
 // The limits, the numbers given back, one type for each kind of number, and writing to a lent slice.
 ghost use mathlib.Core.Path.{_≡_};
-ghost use Prim.Native.Nat.{_≤_, _<_};
+ghost use Prim.Native.Nat.{_+_, _≤_, _<_};
 ghost use lib.ListN.{length};
-ghost use Rattle.words.specs.Lent.{zeros, padded, clearedFrom, inserted};
+ghost use Rattle.words.specs.Lent.{zeros, clearedFrom, movedUp, inserted};
 ghost use Rattle.words.specs.Outcome.{lesser};
 ghost use Rattle.words.specs.Counted.{listsOf};
 ghost use Rattle.words.specs.Code.{howMany};
@@ -130,16 +130,24 @@ pub fn clear_bytes_from(s: &mut [u8], at: usize)
     clear_bytes(&mut s[at..]);
 }
 
+// The words from `from` to `to`, the last of them first, come to stand `by` further up.
+pub fn move_up(s: &mut [u32], from: usize, to: usize, by: usize)
+    requires { ⌜ (from ≤ to) × (to + by ≤ length (now s)) ⌝ }
+    ensures { λ _. ⌜ now (s .exit) ≡ movedUp (now (s .entry)) from to by ⌝ }
+{
+    let mut k = to;
+    while from < k {
+        k -= 1;
+        s[k + by] = s[k];
+    }
+}
+
 // `x` before word `p` of the first `n`, which move up by one from there on.
 pub fn insert(s: &mut [u32], n: usize, p: usize, x: u32)
     requires { ⌜ (p ≤ n) × (n < length (now s)) ⌝ }
     ensures { λ _. ⌜ now (s .exit) ≡ inserted (now (s .entry)) n p x ⌝ }
 {
-    let mut k = n;
-    while p < k {
-        s[k] = s[k - 1];
-        k -= 1;
-    }
+    move_up(s, p, n, 1);
     s[p] = x;
 }
 

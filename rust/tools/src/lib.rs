@@ -6,4 +6,5 @@ pub mod metamath;
 pub mod oracle;
 pub mod random;
 pub mod tables;
+pub mod timing;
 pub mod vectors;

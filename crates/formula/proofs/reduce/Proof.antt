@@ -1,69 +1,48 @@
-use mathlib.Core.Path.{_≡_, subst}
 use native.Mathlib.Omega.{arith}
 use borrow.Author.Needs.{needs}
-use denote.Ref.{now}
-use lib.ListN.{drop}
-use Rattle.words.specs.laws.Parts.{part-all}
-use Rattle.rules.specs.Rules.{ruleOf, slots}
-use Rattle.rules.specs.Code.{Starts, Found}
-use Rattle.formula.proofs.Reducing.{gives-none, gives-few, gives-full, gives-done}
+use Rattle.formula.proofs.Reducing.{sized-of, fit-is, gives-few, gives-full, gives-done}
 use Rattle.formula.proofs.reduce.Statement.{statement}
 use Rattle.formula.proofs.reduce.Tie as tie
 
+measure-requires : tie.Need-measure-requires
+measure-requires c κs =
+    let st = c .before .before .before .before in
+    (st .pre .0, sized-of _ _ _ _ (st .pre .1))
+
+insert-requires : tie.Need-insert-requires
+insert-requires c κs =
+    let st = c .before .before .before .before .before .before .before .before .before .before .before in
+    let d = fit-is _ _ (c .before .before .fit .given .1) (c .before .before .before .before .before .before .measure .ensures) .sized in
+    (d .2, omega (arith, d .1, d .0 .fits, st .pre .1 .lent))
+
 returns : tie.Need-returns
 returns c =
-    let st = c .before .before .before .before .before .before in
-    gives-none _ _ _ _ _ _ _
-    (subst (λ r. Found (now (st .args .rules)) (st .args .rule .0) r) (c .enum-told .given .1) (c .before .before .find-rule .ensures))
-
--- where the rule stands
-starts : (c : tie.After-known-told) →
-    let st = c .before .before .before .before .before .before .before in
-    Starts (now (st .args .rules)) (st .args .rule .0) (c .before .i .given .0 .0)
-starts c =
-    let st = c .before .before .before .before .before .before .before in
-    subst (λ r. Found (now (st .args .rules)) (st .args .rule .0) r) (c .before .i .given .1) (c .before .before .before .find-rule .ensures)
-
-slots-of-requires : tie.Need-slots-of-requires
-slots-of-requires c κs =
-    rw (part-all (now (c .before .before .before .before .before .before .before .before .args .rules)) (c .before .before .i .given .0 .0)) (starts (c .before) .good)
-
--- its slots
-slots-are : (c : tie.After-slots-of) →
-    let ws = now (c .before .before .before .before .before .before .before .before .before .args .rules) in
-    c .slots-of .result ≡ slots (ruleOf (drop (c .before .before .before .i .given .0 .0) ws) .body)
-slots-are c =
-    rw (part-all (now (c .before .before .before .before .before .before .before .before .before .args .rules)) (c .before .before .before .i .given .0 .0))
-    at (c .slots-of .ensures)
+    let st = c .before .before .before .before .before .before .before .before .before .before .before .before .before .before in
+    gives-done _ _ _ _ _ _ _ (st .pre .1) _ _ _ (c .before .before .before .before .before .before .before .before .before .measure .ensures) _ _ (c .before .before .before .before .before .fit .given .1) (c .before .before .insert .ensures) (search needs)
 
 returns-2 : tie.Need-returns-2
-returns-2 c = gives-few _ _ _ _ _ _ _ (c .before .before .before .before .before .before .before .before .before .before .before .pre .1) _ _ (starts (c .before .before .before .before)) (slots-are (c .before .before)) (omega arith)
+returns-2 c =
+    let st = c .before .before .before .before .before .before .before .before .before in
+    gives-few _ _ _ _ _ _ _ (st .pre .1) _ _ _ (c .before .before .before .before .measure .ensures) (c .enum-told .given .1)
 
 returns-3 : tie.Need-returns-3
-returns-3 c = gives-full _ _ _ _ _ _ _ (c .before .before .before .before .before .before .before .before .before .before .before .before .before .pre .1) _ _ (starts (c .before .before .before .before .before .before)) (slots-are (c .before .before .before .before)) (omega arith) (omega arith)
-
-returns-4 : tie.Need-returns-4
-returns-4 c =
-    gives-done _ _ _ _ _ _ _ (c .before .before .before .before .before .before .before .before .before .before .before .before .before .before .before .before .before .before .before .before .pre .1) _ _ (starts (c .before .before .before .before .before .before .before .before .before .before .before .before .before)) (slots-are (c .before .before .before .before .before .before .before .before .before .before .before)) _ _ _ (omega arith) (omega arith) (c .before .before .before .before .merge .ensures)
+returns-3 c =
+    let st = c .before .before .before .before .before .before .before .before .before in
+    gives-full _ _ _ _ _ _ _ (st .pre .1) _ _ _ (c .before .before .before .before .measure .ensures) (c .enum-told2 .given .1)
 
 pub reduce-spec : {M : Type 1} → statement M
 reduce-spec =
     tie.close
     (tie.spec
-    (λ c κs. search needs)
+    measure-requires
+    (λ c. search needs)
+    insert-requires
+    (λ c. search needs)
+    (λ c. search needs)
     (λ c. search needs)
     (λ c. search needs)
     returns
-    (λ c. omega (arith, starts c .fits))
-    (λ c. omega (arith, starts c .fits))
-    (λ c. omega (arith, starts c .fits))
-    (λ c. search needs)
-    slots-of-requires
-    (λ c. search needs)
     (λ c. search needs)
     returns-2
-    returns-3
-    (λ c κs. search needs)
     (λ c. search needs)
-    (λ c. search needs)
-    returns-4)
+    returns-3)

@@ -4,10 +4,18 @@ use mathlib.Core.List.{List, [], _∷_, _++_, append-assoc, append-nil, map, map
 use Prim.Native.Nat.{ℕ, zero, suc, _+_, _-_, _≤_}
 use native.Mathlib.Omega.{arith}
 use native.Mathlib.Numerals.{add-one}
+use native.Mathlib.Nat.{sub-zero}
 use lib.ListN.{length, take, drop, take-append-drop, length-append, length-drop, length-map, length-reverse}
-use lib.Seq.{take-at, drop-at, drop-drop, length-take-le, take-add, append-snoc, take-append-seam, drop-append-add, take-append-le}
-use Rattle.words.specs.Lent.{inserted}
+use lib.Seq.{take-at, drop-at, drop-drop, length-take-le, take-add, append-snoc, take-nil}
 use Rattle.formula.specs.Reducing.{Trees, flat, merge}
+use Rattle.formula.specs.Tail.{total}
+
+-- a list cut at both ends
+pub drop-take : (a n : ℕ) (ws : List ℕ) → drop a (take n ws) ≡ take (n - a) (drop a ws)
+drop-take zero n ws = rw sub-zero
+drop-take (suc a) zero ws = let e : 0 - suc a ≡ 0 = omega arith in rw e
+drop-take (suc a) (suc n) [] = sym (take-nil (suc n - suc a))
+drop-take (suc a) (suc n) (w ∷ ws) = let e : suc n - suc a ≡ n - a = omega arith in rw e (drop-take a n ws)
 
 -- ---- the list
 
@@ -46,10 +54,6 @@ count-merge r k o s h =
     rw (length-append (take o s) (t ∷ drop (o + k) s), length-take-le o s (omega arith)) (simp length-drop (omega arith))
 
 -- ---- the sizes
-
-unfoldable pub total : List ℕ → ℕ
-total [] = 0
-total (x ∷ xs) = x + total xs
 
 pub total-append : (xs ys : List ℕ) → total (xs ++ ys) ≡ total xs + total ys
 unfolding total
@@ -152,17 +156,3 @@ place-stacked n o s h =
 
 pub total-split : (n : ℕ) (xs : List ℕ) → total xs ≡ total (take n xs) + total (drop n xs)
 total-split n xs = ap total (sym (take-append-drop n xs)) ∙ total-append (take n xs) (drop n xs)
-
--- ---- the list slice: the list, then words that don't count
-
-pub inserted-merge : (r k o p z : ℕ) (s : Trees) (zs : List ℕ) → length (flat (drop o s)) ≡ p
-    → inserted (flat s ++ z ∷ zs) (length (flat s)) p r ≡ flat (merge r k o s) ++ zs
-inserted-merge r k o p z s zs h =
-    let f = flat s in
-    let n : p ≤ length f = rw (flat-split o s, length-append (flat (drop o s)) (flat (take o s))) (omega arith) in
-    rw (
-      take-append-seam f (z ∷ zs),
-      drop-append-add f (z ∷ zs) 1,
-      take-append-le p f (z ∷ zs) n,
-      flat-merge-at r k o s p h,
-    ) (sym (append-assoc (take p f) (r ∷ drop p f) zs))

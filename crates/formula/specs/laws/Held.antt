@@ -1,14 +1,15 @@
 -- The trees that stand in the code's slices.
 use mathlib.Core.Path.{_≡_, refl, sym, ap, _∙_}
-use mathlib.Core.List.{List, [], _∷_, _++_, reverse, reverse-append, reverse-cons, map}
+use mathlib.Core.List.{List, [], _∷_, _++_, reverse, reverse-append, reverse-cons, map, map-append}
 use Prim.Native.Nat.{ℕ, _≤_}
 use native.Mathlib.Omega.{arith}
-use lib.ListN.{length, take, drop, length-drop}
+use lib.ListN.{length, take, drop, length-drop, take-append-drop}
 use lib.Seq.{take-all, take-append-le, drop-append-le, length-take-le}
 use Rattle.formula.specs.Reducing.{Trees, flat}
 use Rattle.formula.specs.Code.{mostRoom, pieces, treesOf, Inside, Stands}
 use Rattle.formula.specs.declared.Trees as held
-use Rattle.formula.specs.laws.Flat.{total, stacked, total-stacked, length-stacked}
+use Rattle.formula.specs.Tail.{total}
+use Rattle.formula.specs.laws.Flat.{flat-append, stacked, total-stacked, length-stacked}
 
 -- one piece more
 pieces-last : (ns ws us : List ℕ) → total ns ≡ length ws → pieces (ns ++ length us ∷ []) (ws ++ us) ≡ pieces ns ws ++ us ∷ []
@@ -19,7 +20,7 @@ pieces-last (n ∷ ns) ws us e =
     rw (take-append-le n ws us (omega arith), drop-append-le n ws us (omega arith), pieces-last ns (drop n ws) us (simp length-drop (omega arith)))
 
 -- the list of trees, cut by their sizes, is the trees
-pieces-back : (ts : Trees) → reverse (pieces (stacked ts) (flat ts)) ≡ ts
+pub pieces-back : (ts : Trees) → reverse (pieces (stacked ts) (flat ts)) ≡ ts
 unfolding flat pieces
 pieces-back [] = refl
 pieces-back (t ∷ ts) =
@@ -28,6 +29,31 @@ pieces-back (t ∷ ts) =
       pieces-last (stacked ts) (flat ts) t (total-stacked ts),
       reverse-append (pieces (stacked ts) (flat ts)) (t ∷ []),
       pieces-back ts,
+    )
+
+-- a list cut by sizes that come to its length: it is the list of the trees, and those are their sizes
+pub cut-flat : (ns ws : List ℕ) → total ns ≡ length ws → flat (reverse (pieces ns ws)) ≡ ws
+unfolding flat pieces total
+cut-flat [] [] e = refl
+cut-flat [] (w ∷ ws) e = absurd (omega arith)
+cut-flat (n ∷ ns) ws e =
+    rw (
+      reverse-cons (take n ws) (pieces ns (drop n ws)),
+      flat-append (reverse (pieces ns (drop n ws))) (take n ws ∷ []),
+      cut-flat ns (drop n ws) (simp length-drop (omega arith)),
+    ) (take-append-drop n ws)
+
+pub cut-sizes : (ns ws : List ℕ) → total ns ≡ length ws → stacked (reverse (pieces ns ws)) ≡ ns
+unfolding pieces total
+cut-sizes [] ws e = refl
+cut-sizes (n ∷ ns) ws e =
+    let p = reverse (pieces ns (drop n ws)) in
+    rw (
+      reverse-cons (take n ws) (pieces ns (drop n ws)),
+      map-append length p (take n ws ∷ []),
+      reverse-append (map length p) (length (take n ws) ∷ []),
+      cut-sizes ns (drop n ws) (simp length-drop (omega arith)),
+      length-take-le n ws (omega arith),
     )
 
 -- the trees that have this list and these sizes

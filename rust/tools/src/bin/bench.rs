@@ -10,10 +10,8 @@ use std::hint::black_box;
 use std::process::{Command, ExitCode, Stdio};
 use tools::metamath::Database;
 use tools::tables;
+use tools::timing::{median, time, REPETITIONS};
 
-const REPETITIONS: usize = 7;
-/// A repetition goes on for about so many nanoseconds, or for one call if that takes longer.
-const LEAST: f64 = 4e7;
 /// Of a database's statements one in so many is used.
 const STEP: usize = 100;
 
@@ -121,48 +119,6 @@ fn line(verb: &str, words: &[u32]) -> String {
     let mut line = verb.to_owned();
     words.iter().for_each(|word| write!(line, " {word}").expect("a string takes it"));
     line + "\n"
-}
-
-// ---- how it is timed
-
-fn median(mut values: Vec<f64>) -> f64 {
-    values.sort_by(f64::total_cmp);
-    values[values.len() / 2]
-}
-
-/// Nanoseconds that this process has had a processor, so that other work on the machine doesn't count.
-fn now() -> f64 {
-    #[repr(C)]
-    struct Time {
-        seconds: i64,
-        nanoseconds: i64,
-    }
-    extern "C" {
-        fn clock_gettime(clock: i32, time: *mut Time) -> i32;
-    }
-    const OF_PROCESS: i32 = 2;
-    let mut time = Time {
-        seconds: 0,
-        nanoseconds: 0,
-    };
-    // SAFETY: Linux's C library, which the standard library links, writes one such struct.
-    let fault = unsafe { clock_gettime(OF_PROCESS, &mut time) };
-    assert_eq!(fault, 0, "Linux has that clock");
-    1e9 * time.seconds as f64 + time.nanoseconds as f64
-}
-
-/// Nanoseconds of one call: the median of several repetitions, each as many calls as fill its time.
-fn time(mut call: impl FnMut()) -> f64 {
-    call(); // the first is slower
-    let start = now();
-    call();
-    let calls = (LEAST / (now() - start)) as u32 + 1;
-    let repetition = |_| {
-        let start = now();
-        (0..calls).for_each(|_| call());
-        (now() - start) / f64::from(calls)
-    };
-    median((0..REPETITIONS).map(repetition).collect())
 }
 
 /// What each statement came to: the answer, and the list that came with it.

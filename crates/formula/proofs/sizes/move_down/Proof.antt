@@ -5,8 +5,8 @@ use borrow.Author.Needs.{needs}
 use denote.Ref.{now}
 use lib.ListN.{length}
 use Rattle.formula.proofs.Reducing.{Moved, moved-none, moved-more, moved-all}
-use Rattle.formula.proofs.move_down.Statement.{statement}
-use Rattle.formula.proofs.move_down.Tie as tie
+use Rattle.formula.proofs.sizes.move_down.Statement.{statement}
+use Rattle.formula.proofs.sizes.move_down.Tie as tie
 
 abbrev Inv-loop : tie.InvT-loop
 Inv-loop s₀ n from to i₀ j₀ s i j = (from ≤ i) × (i ≤ n) × (length s ≡ length s₀) × Moved s₀ s from to i j

@@ -2,8 +2,8 @@ use native.Mathlib.Omega.{arith}
 use borrow.Author.Needs.{needs}
 use denote.Ref.{now}
 use Rattle.formula.proofs.Reducing.{replaced}
-use Rattle.formula.proofs.replace.Statement.{statement}
-use Rattle.formula.proofs.replace.Tie as tie
+use Rattle.formula.proofs.sizes.replace.Statement.{statement}
+use Rattle.formula.proofs.sizes.replace.Tie as tie
 
 returns : tie.Need-returns
 returns c =

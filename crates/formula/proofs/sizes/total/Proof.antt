@@ -4,10 +4,10 @@ use native.Mathlib.Omega.{arith}
 use borrow.Author.Needs.{needs}
 use denote.Ref.{now}
 use lib.ListN.{length, drop}
-use Rattle.formula.specs.laws.Flat.{total}
+use Rattle.formula.specs.Tail.{total}
 use Rattle.formula.proofs.Reducing.{total-step, total-end}
-use Rattle.formula.proofs.total.Statement.{statement}
-use Rattle.formula.proofs.total.Tie as tie
+use Rattle.formula.proofs.sizes.total.Statement.{statement}
+use Rattle.formula.proofs.sizes.total.Tie as tie
 
 abbrev Inv-loop : tie.InvT-loop
 Inv-loop sizes n₀ i₀ n i = (i ≤ length sizes) × (n + total (drop i sizes) ≡ total sizes)
