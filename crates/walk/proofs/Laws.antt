@@ -26,7 +26,7 @@ use Rattle.rows.specs.laws.Lookup.{row-found, none-found}
 use Rattle.rows.specs.declared.Found.{Found}
 use Rattle.rows.specs.declared.Found.the-variants.{Row}
 use Rattle.rows.specs.declared.Found.the-variants as found
-use Rattle.walk.specs.Walk.{tablesOf, present, comesFrom, wanted, conversion}
+use Rattle.walk.specs.Walk.{tablesOf, Choice, present, comesFrom, wanted, conversion}
 use Rattle.walk.specs.Code.{stack, wishOf, Bare, Framed, Wants, Converts, Chooses}
 use Rattle.walk.specs.declared.Wish.{Wish}
 use Rattle.walk.specs.declared.Wish.the-variants.{Goal, Frame}
@@ -38,10 +38,6 @@ pub stack-length : (n : ℕ) (ws : List ℕ) → length (stack n ws) ≡ n
 unfolding stack
 stack-length zero ws = refl
 stack-length (suc n) ws = ap suc (stack-length n ws)
-
-pub stack-none : (n : ℕ) (ws : List ℕ) → n ≡ 0 → stack n ws ≡ []
-unfolding stack
-stack-none n ws e = rw e
 
 pub stack-pop : (n : ℕ) (ws : List ℕ) → (n ≡ 0 → ⊥) → stack n ws ≡ getD ws (n - 1) 0 ∷ stack (n - 1) ws
 unfolding stack
@@ -114,11 +110,11 @@ module _ (es : List ℕ) (w : Wish) (t : ℕ) where
 
 -- ---- the first conversion
 
-hit : (b : Bool) (x y : Option ℕ) → b ≡ true → elim b [ true ↦ x | false ↦ y ] ≡ x
+hit : (b : Bool) (x y : Option Choice) → b ≡ true → elim b [ true ↦ x | false ↦ y ] ≡ x
 hit true x y e = refl
 hit false x y e = absurd (false≢true e)
 
-miss : (b : Bool) (x y : Option ℕ) → b ≡ false → elim b [ true ↦ x | false ↦ y ] ≡ y
+miss : (b : Bool) (x y : Option Choice) → b ≡ false → elim b [ true ↦ x | false ↦ y ] ≡ y
 miss true x y e = absurd (false≢true (sym e))
 miss false x y e = refl
 
@@ -158,9 +154,11 @@ module _ (es : List ℕ) (w : Wish) (ws : List ℕ) (t : ℕ) where
           → b ≡ comesFrom (source (ruleOf (drop i ws) .body)) t && wanted (tablesOf R ns (edgesOf es)) goal st fs (ruleOf (drop i ws) .result)
       test R ns st goal fs h = rw (part-all ws i) at (q R ns st goal fs h)
 
-      pub trying-here : b ≡ true → Chooses es w (theRules ws) t (By (record { 0 = k + 1 }))
+      pub trying-here : b ≡ true → (to : SymbolNo) → to .0 ≡ ruleOf (take (length ws - i) (drop i ws)) .result
+          → Chooses es w (theRules ws) t (By (record { rule = record { 0 = k + 1 }; to = to }))
       unfolding conversion
-      trying-here e R ns st goal fs h = sym (hit _ _ _ (sym (test R ns st goal fs h) ∙ e)) ∙ (rw first at (g .same R ns st goal fs h))
+      trying-here e to d R ns st goal fs h =
+          rw (rw (part-all ws i) at d) (sym (hit _ _ _ (sym (test R ns st goal fs h) ∙ e)) ∙ (rw first at (g .same R ns st goal fs h)))
 
       pub trying-next : b ≡ false → Trying es w ws t (i + sizeOf (drop i ws)) (k + 1)
       unfolding conversion

@@ -16,14 +16,13 @@ use Rattle.words.specs.Numbers.{Why, misfit, noEntry}
 use Rattle.rules.specs.Rules.{theRules, ruleOf}
 use Rattle.words.specs.laws.Parts.{part-all}
 use Rattle.words.specs.laws.Tests.{failed, passed}
-use Rattle.words.specs.declared.RuleNo.{RuleNo}
 use Rattle.words.specs.declared.NodeNo.{NodeNo}
 use Rattle.words.specs.declared.SymbolNo.{SymbolNo}
 use Rattle.rules.specs.Code as rules
 use Rattle.rules.specs.Code.{Starts, Missing}
 use Rattle.rules.specs.declared.Start.{Start}
 use Rattle.rules.specs.declared.Start.the-variants as start
-use Rattle.rows.specs.Rows.{Edge, edgeOf, edgesOf, bare}
+use Rattle.rows.specs.Rows.{Edge, edgeOf, edgesOf, find, bare}
 use Rattle.rows.specs.Code.{looksUp, edgeIs, Holds, rowAt}
 use Rattle.rows.specs.declared.Edge as edge
 use Rattle.rows.specs.laws.Lookup.{row-found, none-found}
@@ -37,8 +36,8 @@ use Rattle.formula.specs.laws.Held.{trees-count}
 use Rattle.formula.specs.declared.Trees as held
 use Rattle.formula.specs.declared.Reduced.{Reduced}
 use Rattle.formula.specs.declared.Reduced.the-variants.{Done, TooFew, Full}
-use Rattle.walk.specs.Walk.{Tables, tablesOf, Room, State, wanted, conversion, follow, rootBy, rootStep, finish, convertBy, unwanted, popBy, goalBy, complete, leaf, token, branch, pass, Turn, after, start, walk}
-use Rattle.walk.specs.Code.{tables, roomOf, stack, stateOf, Chooses, Placed, Fit, Follows, Roots, Opens, Branches, Lies, Finishes, Closes, Bare, Framed, Stood, standAt, under, Unwanted, Completes, Leaves}
+use Rattle.walk.specs.Walk.{Tables, tablesOf, Room, State, wanted, Choice, conversion, follow, stepBy, rootStep, finish, converted, convertBy, unwanted, popBy, goalBy, complete, leaf, token, branch, pass, Turn, after, start, walk}
+use Rattle.walk.specs.Code.{tables, roomOf, stack, stateOf, Chooses, Placed, Fit, Follows, Roots, Opens, Branches, Lies, Finishes, Bare, Framed, Stood, Ready, standAt, under, Unwanted, Completes, Leaves, choiceOf, Steps, withTrees, Converted, Closes}
 use Rattle.walk.specs.declared.Wish.{Wish}
 use Rattle.walk.specs.declared.Wish.the-variants.{Goal, Frame}
 use Rattle.walk.specs.declared.Stand.{Stand}
@@ -46,6 +45,7 @@ use Rattle.walk.specs.declared.At.{At}
 use Rattle.walk.specs.declared.Why.the-variants.{Unparseable, TooShort, Misfit, NoFrame, NoEntry}
 use Rattle.walk.specs.declared.Turn as declared
 use Rattle.walk.specs.declared.Turn.the-variants.{On, End, Stop}
+use Rattle.walk.specs.declared.Choice as chosen
 use Rattle.walk.specs.declared.Chosen.{Chosen}
 use Rattle.walk.specs.declared.Chosen.the-variants.{By, Nothing}
 use Rattle.walk.proofs.Laws.{stack-length, stack-push, stack-top, bare-none}
@@ -79,17 +79,22 @@ module _ (rs : List ℕ) (room : ℕ) {h : edge.Edge} {e : Edge} (d : Holds h e)
       let o : no noEntry ≡ all = rw q at (g .outcome) in
       subst (λ (x : Edge). To x (Stop NoEntry)) (d .says) λ ns es st ts fs goal p. record { turned = rw (← o); whole = tt }
 
--- ---- the root step
+-- ---- a variable edge that is looked up and followed
 
-module _ (rs es : List ℕ) (room t : ℕ) (s : At) (ls ws : List ℕ) {f : Found} (l : f ≡ looksUp es 0 1 t) where
-  pub root-none : f ≡ found.Nothing → Roots rs es room t s ls ws (Stop (Unparseable (s .last))) ls ws
-  unfolding rootStep rootBy tablesOf
-  root-none e ns st ts fs goal p = record { turned = rw (none-found es 0 1 t l e); whole = tt }
+module _ (rs es : List ℕ) (room n t : ℕ) (s : At) (ls ws : List ℕ) {f : Found} (l : f ≡ looksUp es n 1 t) where
+  pub step-none : f ≡ found.Nothing → Steps rs es room n t s ls ws (Stop (Unparseable (s .last))) ls ws
+  unfolding stepBy
+  step-none e ns st ts fs goal p = record { turned = rw (none-found es n 1 t l e); whole = tt }
 
-  pub root-row : (row : ℕ) → f ≡ Row row → {r : declared.Turn} {ls′ ws′ : List ℕ} → Follows rs room (edgeOf (rowAt es row)) s ls ws r ls′ ws′
-      → Roots rs es room t s ls ws r ls′ ws′
-  unfolding rootStep rootBy tablesOf
-  root-row row e g ns st ts fs goal p = rw (row-found es 0 1 t l row e .finds) (g ns es st ts fs goal p)
+  pub step-row : (row : ℕ) → f ≡ Row row → {r : declared.Turn} {ls′ ws′ : List ℕ} → Follows rs room (edgeOf (rowAt es row)) s ls ws r ls′ ws′
+      → Steps rs es room n t s ls ws r ls′ ws′
+  unfolding stepBy
+  step-row row e g ns st ts fs goal p = rw (row-found es n 1 t l row e .finds) (g ns es st ts fs goal p)
+
+pub step-root : (rs es : List ℕ) (room t : ℕ) (s : At) (ls ws : List ℕ) {r : declared.Turn} {ls′ ws′ : List ℕ} → Steps rs es room 0 t s ls ws r ls′ ws′
+    → Roots rs es room t s ls ws r ls′ ws′
+unfolding rootStep tablesOf
+step-root rs es room t s ls ws g = g
 
 -- what is asked of the row that a look-up finds
 pub slim-row : {rs es : List ℕ} → Fit rs es → (n k t : ℕ) {f : Found} → f ≡ looksUp es n k t → (row : ℕ) → f ≡ Row row
@@ -190,32 +195,6 @@ module _ (rs : List ℕ) (goal : ℕ) (ts : List ℕ) (us : held.Trees) (ls ws :
       whole = (omega (arith, i .1 .fits, i .1 .lent), omega (arith, i .1 .fits, i .1 .words));
     }
 
--- trees that a reduce leaves are in order
-pub done-inside : (room : ℕ) {r : Reduced} {ls ws : List ℕ} {o : Res Why Trees} → formula.Gives room r ls ws o → (us : held.Trees) → r ≡ Done us
-    → formula.Inside room us ls ws
-done-inside room g us e = rw e at (g .inside)
-
-module _ (rs : List ℕ) (goal : ℕ) (ts : List ℕ) (c room : ℕ) (us : held.Trees) (ls ws : List ℕ) {r : Reduced} {ls′ ws′ : List ℕ}
-    (g : formula.Gives room r ls′ ws′ (reduce (theRules rs) room c 0 (formula.treesOf us ls ws))) where
-  pub close-done : (vs : held.Trees) → r ≡ Done vs → {q : declared.Turn} {ws″ : List ℕ} → Finishes rs goal ts vs ls′ ws′ q ws″
-      → Closes rs goal ts c room us ls ws q ls′ ws″
-  unfolding bind
-  close-done vs e f ns es fs =
-      let o : ok (formula.treesOf vs ls′ ws′) ≡ reduce (theRules rs) room c 0 (formula.treesOf us ls ws) = rw e at (g .outcome) in
-      rw (← o) (f ns es fs room)
-
-  pub close-few : r ≡ TooFew → Closes rs goal ts c room us ls ws (Stop Misfit) ls′ ws′
-  unfolding bind
-  close-few e ns es fs =
-      let o : no misfit ≡ reduce (theRules rs) room c 0 (formula.treesOf us ls ws) = rw e at (g .outcome) in
-      record { turned = rw (← o); whole = tt }
-
-  pub close-full : r ≡ Full → Closes rs goal ts c room us ls ws (Stop NoEntry) ls′ ws′
-  unfolding bind
-  close-full e ns es fs =
-      let o : no noEntry ≡ reduce (theRules rs) room c 0 (formula.treesOf us ls ws) = rw e at (g .outcome) in
-      record { turned = rw (← o); whole = tt }
-
 -- ---- a tree that is complete and not wanted
 
 module _ (rs es ts : List ℕ) (p : Stand) (ls ws : List ℕ) {r : declared.Turn} {ls′ ws′ : List ℕ} (t : ℕ) where
@@ -234,14 +213,13 @@ module _ (rs es ts : List ℕ) (p : Stand) (ls ws : List ℕ) {r : declared.Turn
         rw e at (l (theRules rs) ns (drop 1 ts) (p .goal .0) (stack (p .at .frames) fs) (q .wish)) in
         rw (d, ← o) (rw d at (g ns (drop 1 ts) ts fs (p .goal .0) (q .placed)))
 
-    pub unwanted-by : (c : RuleNo) → k ≡ By c → Closes rs (p .goal .0) ts (c .0) (p .room) (p .at .trees) ls ws r ls′ ws′
-        → Unwanted rs es ts p ls ws r ls′ ws′ t
+    pub unwanted-by : (c : chosen.Choice) → k ≡ By c → Closes rs es ts p ls ws r ls′ ws′ (choiceOf c) → Unwanted rs es ts p ls ws r ls′ ws′ t
     unfolding unwanted convertBy tablesOf
     unwanted-by c e g ns fs q =
         let d = drop-of-length-le ts {i = p .at .token} h in
-        let o : some (c .0) ≡ conversion (tables rs ns es) (p .goal .0) (drop 1 ts) (theRules rs) 1 (stack (p .at .frames) fs) t =
+        let o : some (choiceOf c) ≡ conversion (tables rs ns es) (p .goal .0) (drop 1 ts) (theRules rs) 1 (stack (p .at .frames) fs) t =
         rw e at (l (theRules rs) ns (drop 1 ts) (p .goal .0) (stack (p .at .frames) fs) (q .wish)) in
-        rw (d, ← o) (g ns es fs)
+        rw (d, ← o) (rw d at (g ns fs q))
 
 -- ---- a tree that is complete
 
@@ -296,25 +274,37 @@ bottom-ends rs es ts p ls ws t b e h g ns fs q =
 
 -- ---- a pass at a leaf
 
+-- what an edge leads to does not ask which frames and trees there were before
+stepBy-other : (T : Tables) (goal : ℕ) (st : List ℕ) (m : Room) (s : State) (gs : List ℕ) (us : Trees) (fs : List ℕ) (vs : Trees) (o : Option Edge)
+    → stepBy T goal st m fs s vs o
+    ≡ stepBy T goal st m fs (record { node = s .node; frames = gs; trees = us; rest = s .rest; at = s .at; last = s .last }) vs o
+unfolding stepBy follow
+stepBy-other T goal st m s gs us fs vs none = refl
+stepBy-other T goal st m s gs us fs vs (some e) = refl
+
 -- what a complete tree comes to does not ask which trees there were before
 module _ (T : Tables) (goal : ℕ) (st : List ℕ) (m : Room) (s : State) (us : Trees) where
   abbrev other : State
   other = record { node = s .node; frames = s .frames; trees = us; rest = s .rest; at = s .at; last = s .last }
 
-  rootBy-other : (vs : Trees) (o : Option Edge) → rootBy T goal st m s vs o ≡ rootBy T goal st m other vs o
-  unfolding rootBy follow
-  rootBy-other vs none = refl
-  rootBy-other vs (some e) = refl
+  rootStep-other : (t : ℕ) (vs : Trees) → rootStep T goal st m s t vs ≡ rootStep T goal st m other t vs
+  unfolding rootStep
+  rootStep-other t vs = stepBy-other T goal st m s (s .frames) us (s .frames) vs _
 
-  convertBy-other : (t : ℕ) (vs : Trees) (o : Option ℕ) → convertBy T goal st m s t vs o ≡ convertBy T goal st m other t vs o
-  unfolding convertBy rootStep
-  convertBy-other t vs none = rootBy-other vs _
-  convertBy-other t vs (some c) = refl
+  converted-other : (t : ℕ) (fs : List ℕ) (vs : Trees) → converted T goal st m s t fs vs ≡ converted T goal st m other t fs vs
+  unfolding converted
+  converted-other t [] vs = refl
+  converted-other t (f ∷ fs) vs = stepBy-other T goal st m s (s .frames) us fs vs _
+
+  convertBy-other : (t : ℕ) (vs : Trees) (o : Option Choice) → convertBy T goal st m s t vs o ≡ convertBy T goal st m other t vs o
+  unfolding convertBy
+  convertBy-other t vs none = rootStep-other t vs
+  convertBy-other t vs (some k) = λ i. bind (reduce (T .rules) (m .list) (k .rule) 0 vs) λ ws. converted-other (k .to) (s .frames) ws i
 
   unwanted-other : (t : ℕ) (vs : Trees) (xs : List ℕ) → unwanted T goal st m s t vs xs ≡ unwanted T goal st m other t vs xs
-  unfolding unwanted rootStep
+  unfolding unwanted
   unwanted-other t vs [] = convertBy-other t vs _
-  unwanted-other t vs (x ∷ xs) = rootBy-other vs _
+  unwanted-other t vs (x ∷ xs) = rootStep-other t vs
 
   popBy-other : (t : ℕ) (vs : Trees) (fs : List ℕ) (o : Option Edge) → popBy T goal st m s t vs fs o ≡ popBy T goal st m other t vs fs o
   unfolding popBy follow
@@ -322,10 +312,10 @@ module _ (T : Tables) (goal : ℕ) (st : List ℕ) (m : Room) (s : State) (us : 
   popBy-other t vs fs (some e) = refl
 
   goalBy-other : (t : ℕ) (vs : Trees) (xs : List ℕ) (b : Bool) → goalBy T goal st m s t vs xs b ≡ goalBy T goal st m other t vs xs b
-  unfolding goalBy rootStep
+  unfolding goalBy
   goalBy-other t vs xs false = unwanted-other t vs xs
   goalBy-other t vs [] true = refl
-  goalBy-other t vs (x ∷ xs) true = rootBy-other vs _
+  goalBy-other t vs (x ∷ xs) true = rootStep-other t vs
 
   complete-other : (t : ℕ) (fs : List ℕ) (vs : Trees) → complete T goal st m s t fs vs ≡ complete T goal st m other t fs vs
   unfolding complete
@@ -339,9 +329,61 @@ starts-at ws n f i e = rw e at f
 pub is-missing : (ws : List ℕ) (n : ℕ) {r : Start} → rules.Found ws n r → r ≡ start.Nothing → Missing ws n
 is-missing ws n f e = rw e at f
 
--- the state with the trees that a reduce left
-abbrev pub regrown : At → held.Trees → At
-regrown s us = record { node = s .node; frames = s .frames; trees = us; token = s .token; last = s .last }
+-- it stands there with the trees that a reduce left, too
+stood-with : {p : Stand} {ts fs : List ℕ} → Stood p ts fs → (us : held.Trees) → Stood (standAt p (withTrees (p .at) us)) ts fs
+stood-with q us =
+    let n = q .placed in
+    record { placed = record { begun = n .begun; token = n .token; frames = n .frames }; wish = q .wish }
+
+-- and is ready there
+pub ready-with : {rs es ts : List ℕ} {p : Stand} {ls ws : List ℕ} → Ready rs es ts p ls ws → {r : Reduced} {ls′ ws′ : List ℕ} {o : Res Why Trees}
+    → formula.Gives (p .room) r ls′ ws′ o → (us : held.Trees) → r ≡ Done us → Ready rs es ts (standAt p (withTrees (p .at) us)) ls′ ws′
+ready-with h g us e = record {
+  fit = h .fit;
+  short = h .short;
+  begun = h .begun;
+  token = h .token;
+  framed = h .framed;
+  inside = rw e at (g .inside);
+}
+
+-- the conversion
+module _ (rs es ts : List ℕ) (p : Stand) (ls ws : List ℕ) {r : declared.Turn} {ws′ : List ℕ} (t : ℕ) where
+  pub converted-ends : Bare (p .wish) → Finishes rs (p .goal .0) ts (p .at .trees) ls ws r ws′ → Converted rs es ts p ls ws r ls ws′ t
+  unfolding converted
+  converted-ends b g ns fs q = rw (none-left q b) (g ns es fs (p .room))
+
+  pub converted-pops : {ls′ : List ℕ} (top : NodeNo) → p .wish ≡ Frame top → Steps rs es (p .room) (top .0) t (under (p .at)) ls ws r ls′ ws′
+      → Converted rs es ts p ls ws r ls′ ws′ t
+  unfolding converted tablesOf
+  converted-pops top w g ns fs q =
+      let i = q .placed in
+      let v = g ns (drop 1 ts) ts fs (p .goal .0) (record { begun = i .begun; token = i .token; frames = omega (arith, i .frames) }) in
+      let gs = stack (p .at .frames - 1) fs in
+      let us = formula.treesOf (p .at .trees) ls ws in
+      let s : State = record { node = p .at .node .0; frames = top .0 ∷ gs; trees = us; rest = drop (p .at .token) ts; at = p .at .token; last = p .at .last } in
+      rw (on-top q top w, stepBy-other (tables rs ns es) (p .goal .0) (drop 1 ts) (roomOf (p .room) fs) s gs us gs us (find (edgesOf es) (top .0) 1 t)) v
+
+module _ (rs es ts : List ℕ) (p : Stand) (ls ws : List ℕ) (k : Choice) {r : Reduced} {ls′ ws′ : List ℕ}
+    (g : formula.Gives (p .room) r ls′ ws′ (reduce (theRules rs) (p .room) (k .rule) 0 (formula.treesOf (p .at .trees) ls ws))) where
+  abbrev reduced : Res Why Trees
+  reduced = reduce (theRules rs) (p .room) (k .rule) 0 (formula.treesOf (p .at .trees) ls ws)
+
+  pub close-done : (us : held.Trees) → r ≡ Done us → {w : declared.Turn} {ls″ ws″ : List ℕ}
+      → Converted rs es ts (standAt p (withTrees (p .at) us)) ls′ ws′ w ls″ ws″ (k .to) → Closes rs es ts p ls ws w ls″ ws″ k
+  unfolding convertBy bind tablesOf
+  close-done us e h ns fs q =
+      let o : ok (formula.treesOf us ls′ ws′) ≡ reduced = rw e at (g .outcome) in
+      let c = converted-other (tables rs ns es) (p .goal .0) (drop 1 ts) (roomOf (p .room) fs) (stateOf (p .at) ts fs ls ws) (formula.treesOf us ls′ ws′) (k .to) (stack (p .at .frames) fs) (formula.treesOf us ls′ ws′) in
+      rw (← o, c) (h ns fs (stood-with q us))
+
+  pub close-few : r ≡ TooFew → Closes rs es ts p ls ws (Stop Misfit) ls′ ws′ k
+  unfolding convertBy bind tablesOf
+  close-few e ns fs q = let o : no misfit ≡ reduced = rw e at (g .outcome) in record { turned = rw (← o); whole = tt }
+
+  pub close-full : r ≡ Full → Closes rs es ts p ls ws (Stop NoEntry) ls′ ws′ k
+  unfolding convertBy bind tablesOf
+  close-full e ns fs q = let o : no noEntry ≡ reduced = rw e at (g .outcome) in record { turned = rw (← o); whole = tt }
 
 module _ (rs es ts : List ℕ) (p : Stand) (ls ws : List ℕ) (c : ℕ) where
   pub leaf-missing : Missing rs c → Leaves rs es ts p ls ws (Stop Misfit) ls ws c
@@ -354,14 +396,12 @@ module _ (rs es ts : List ℕ) (p : Stand) (ls ws : List ℕ) (c : ℕ) where
     one = reduce (theRules rs) (p .room) c 0 (formula.treesOf (p .at .trees) ls ws)
 
     pub leaf-done : (us : held.Trees) → r ≡ Done us → {w : declared.Turn} {ls″ ws″ : List ℕ} {t : ℕ} → t ≡ ruleOf (take (length rs - i) (drop i rs)) .result
-        → Completes rs es ts (standAt p (regrown (p .at) us)) ls′ ws′ w ls″ ws″ t → Leaves rs es ts p ls ws w ls″ ws″ c
+        → Completes rs es ts (standAt p (withTrees (p .at) us)) ls′ ws′ w ls″ ws″ t → Leaves rs es ts p ls ws w ls″ ws″ c
     unfolding leaf bind tablesOf
     leaf-done us e d h ns fs q =
         let o : ok (formula.treesOf us ls′ ws′) ≡ one = rw e at (g .outcome) in
         let k = complete-other (tables rs ns es) (p .goal .0) (drop 1 ts) (roomOf (p .room) fs) (stateOf (p .at) ts fs ls ws) (formula.treesOf us ls′ ws′) (ruleOf (drop i rs) .result) (stack (p .at .frames) fs) (formula.treesOf us ls′ ws′) in
-        let n = q .placed in
-        rw (s .named, ← o, k, ← (rw (part-all rs i) at d))
-        (h ns fs (record { placed = record { begun = n .begun; token = n .token; frames = n .frames }; wish = q .wish }))
+        rw (s .named, ← o, k, ← (rw (part-all rs i) at d)) (h ns fs (stood-with q us))
 
     pub leaf-few : r ≡ TooFew → Leaves rs es ts p ls ws (Stop Misfit) ls′ ws′ c
     unfolding leaf bind tablesOf

@@ -15,7 +15,7 @@ use Rattle.rows.specs.Rows.{Edge, edgesOf, find}
 use Rattle.formula.specs.Reducing.{reduce}
 use Rattle.formula.specs.declared.Trees as held
 use Rattle.formula.specs.Code as formula
-use Rattle.walk.specs.Walk.{Tables, tablesOf, Room, State, Turn, on, end, comesFrom, wanted, conversion, follow, rootStep, finish, unwanted, complete, leaf, token, branch, pass, Walked}
+use Rattle.walk.specs.Walk.{Tables, tablesOf, Room, State, Turn, on, end, Choice, comesFrom, wanted, conversion, follow, stepBy, rootStep, finish, converted, convertBy, unwanted, complete, leaf, token, branch, pass, Walked}
 use Rattle.walk.specs.declared.At.{At}
 use Rattle.walk.specs.declared.Wish.{Wish}
 use Rattle.walk.specs.declared.Wish.the-variants.{Goal, Frame}
@@ -27,6 +27,7 @@ use Rattle.walk.specs.declared.Why.the-variants.{Unparseable, TooShort, 
 use Rattle.walk.specs.declared.Turn as declared
 use Rattle.walk.specs.declared.Turn.the-variants.{On, End, Stop}
 use Rattle.walk.specs.declared.Walked as answer
+use Rattle.walk.specs.declared.Choice as chosen
 use Rattle.walk.specs.declared.Chosen.{Chosen}
 use Rattle.walk.specs.declared.Chosen.the-variants.{By, Nothing}
 
@@ -125,6 +126,10 @@ pub record Ready (rs es ts : List ℕ) (p : Stand) (ls ws : List ℕ) : Type 0 w
 abbrev pub standAt : Stand → At → Stand
 standAt p s = record { goal = p .goal; wish = p .wish; room = p .room; at = s }
 
+-- with these trees
+abbrev pub withTrees : At → held.Trees → At
+withTrees s us = record { node = s .node; frames = s .frames; trees = us; token = s .token; last = s .last }
+
 -- the top frame is popped
 abbrev pub under : At → At
 under s = record { node = s .node; frames = s .frames - 1; trees = s .trees; token = s .token; last = s .last }
@@ -143,8 +148,11 @@ abbrev pub Converts : List ℕ → Wish → Rule → ℕ → Bool → Type 0
 Converts es w q t b = (R : List Rule) (ns st : List ℕ) (goal : ℕ) (fs : List ℕ) → w ≡ wishOf goal fs
     → b ≡ comesFrom (source (q .body)) t && wanted (tablesOf R ns (edgesOf es)) goal st fs (q .result)
 
-abbrev pub chosenOf : Chosen → Option ℕ
-chosenOf (By c) = some (c .0)
+abbrev pub choiceOf : chosen.Choice → Choice
+choiceOf k = record { rule = k .rule .0; to = k .to .0 }
+
+abbrev pub chosenOf : Chosen → Option Choice
+chosenOf (By k) = some (choiceOf k)
 chosenOf Nothing = none
 
 -- the first conversion from t to a wanted typecode
@@ -158,6 +166,11 @@ Chooses es w qs t r = (R : List Rule) (ns st : List ℕ) (goal : ℕ) (fs : List
 abbrev pub Follows : List ℕ → ℕ → Edge → At → List ℕ → List ℕ → declared.Turn → List ℕ → List ℕ → Type 0
 Follows rs room e s ls ws r ls′ ws′ = (ns es st ts fs : List ℕ) (goal : ℕ) → Placed s ts fs → Gives room r ts fs ls′ ws′
     (follow (tables rs ns es) goal st (roomOf room fs) (stack (s .frames) fs) (stateOf s ts fs ls ws) e (formula.treesOf (s .trees) ls ws))
+
+-- the variable edge of node n for t is followed from s
+abbrev pub Steps : List ℕ → List ℕ → ℕ → ℕ → ℕ → At → List ℕ → List ℕ → declared.Turn → List ℕ → List ℕ → Type 0
+Steps rs es room n t s ls ws r ls′ ws′ = (ns st ts fs : List ℕ) (goal : ℕ) → Placed s ts fs → Gives room r ts fs ls′ ws′
+    (stepBy (tables rs ns es) goal st (roomOf room fs) (stack (s .frames) fs) (stateOf s ts fs ls ws) (formula.treesOf (s .trees) ls ws) (find (edgesOf es) n 1 t))
 
 -- the root step for t
 abbrev pub Roots : List ℕ → List ℕ → ℕ → ℕ → At → List ℕ → List ℕ → declared.Turn → List ℕ → List ℕ → Type 0
@@ -173,11 +186,6 @@ abbrev pub Finishes : List ℕ → ℕ → List ℕ → held.Trees → List ℕ 
 Finishes rs goal ts us ls ws r ws′ = (ns es fs : List ℕ) (room : ℕ) → Gives room r ts fs ls ws′
     (finish (tables rs ns es) goal (drop 1 ts) (formula.treesOf us ls ws))
 
--- rule c is reduced and the walk finishes
-abbrev pub Closes : List ℕ → ℕ → List ℕ → ℕ → ℕ → held.Trees → List ℕ → List ℕ → declared.Turn → List ℕ → List ℕ → Type 0
-Closes rs goal ts c room us ls ws r ls′ ws′ = (ns es fs : List ℕ) → Gives room r ts fs ls′ ws′
-    (bind (reduce (theRules rs) room c 0 (formula.treesOf us ls ws)) (finish (tables rs ns es) goal (drop 1 ts)))
-
 -- no constant edge: the node becomes a frame; x is the token at hand
 abbrev pub Opens : List ℕ → At → List ℕ → declared.Turn → List ℕ → Type 0
 Opens es s fs r fs′ = (R : List Rule) (ns st ts ls ws : List ℕ) (goal room x : ℕ) (xs : List ℕ) → drop (s .token) ts ≡ x ∷ xs → Placed s ts fs
@@ -192,6 +200,16 @@ Branches rs es ts room s fs ls ws r fs′ ls′ ws′ = (ns st : List ℕ) (goal
 -- ---- a pass at a leaf, over whatever nodes and frames
 
 module _ (rs es ts : List ℕ) (p : Stand) (ls ws : List ℕ) (r : declared.Turn) (ls′ ws′ : List ℕ) where
+  -- a conversion to t is reduced
+  abbrev pub Converted : ℕ → Type 0
+  Converted t = (ns fs : List ℕ) → Stood p ts fs → Gives (p .room) r ts fs ls′ ws′
+      (converted (tables rs ns es) (p .goal .0) (drop 1 ts) (roomOf (p .room) fs) (stateOf (p .at) ts fs ls ws) t (stack (p .at .frames) fs) (formula.treesOf (p .at .trees) ls ws))
+
+  -- the conversion k is chosen
+  abbrev pub Closes : Choice → Type 0
+  Closes k = (ns fs : List ℕ) → Stood p ts fs → Gives (p .room) r ts fs ls′ ws′
+      (convertBy (tables rs ns es) (p .goal .0) (drop 1 ts) (roomOf (p .room) fs) (stateOf (p .at) ts fs ls ws) (k .to) (formula.treesOf (p .at .trees) ls ws) (some k))
+
   -- a tree of typecode t is complete and not wanted
   abbrev pub Unwanted : ℕ → Type 0
   Unwanted t = (ns fs : List ℕ) → Stood p ts fs → Gives (p .room) r ts fs ls′ ws′

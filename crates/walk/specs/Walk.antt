@@ -43,6 +43,11 @@ pub data Turn : Type 0 where
   on : State → Turn
   end : List ℕ → Turn
 
+-- a conversion: its rule, and the typecode that it goes to
+pub record Choice : Type 0 where
+  pub rule : ℕ
+  pub to : ℕ
+
 unfoldable pub present : Option Edge → Bool
 present none = false
 present (some e) = true
@@ -60,31 +65,38 @@ module _ (T : Tables) (goal : ℕ) (statement : List ℕ) where
   wanted (f ∷ fs) t = present (T .edge f 1 t)
 
   -- the first conversion, counted from c, from t to a wanted typecode
-  unfoldable pub conversion : List Rule → ℕ → List ℕ → ℕ → Option ℕ
+  unfoldable pub conversion : List Rule → ℕ → List ℕ → ℕ → Option Choice
   conversion [] c fs t = none
-  conversion (q ∷ qs) c fs t = elim (comesFrom (source (q .body)) t && wanted fs (q .result)) [ true ↦ some c | false ↦ conversion qs (suc c) fs t ]
+  conversion (q ∷ qs) c fs t = elim (comesFrom (source (q .body)) t && wanted fs (q .result))
+      [ true ↦ some (record { rule = c; to = q .result }) | false ↦ conversion qs (suc c) fs t ]
 
   -- an edge is followed, its reduces first
   unfoldable pub follow : Room → List ℕ → State → Edge → Trees → Res Why Turn
   follow m fs s e ts = bind (reduceAll (T .rules) (m .list) (e .reduces) ts) λ ts.
       ok (on (record { node = e .to; frames = fs; trees = ts; rest = s .rest; at = s .at; last = s .last }))
 
-  -- root step: node 0's variable edge for t is followed; none, 2 at the last noted token
-  unfoldable pub rootBy : Room → State → Trees → Option Edge → Res Why Turn
-  rootBy m s ts none = no (unparseable (s .last))
-  rootBy m s ts (some e) = follow m (s .frames) s e ts
+  -- a variable edge that was looked up is followed; none, 2 at the last noted token
+  unfoldable pub stepBy : Room → List ℕ → State → Trees → Option Edge → Res Why Turn
+  stepBy m fs s ts none = no (unparseable (s .last))
+  stepBy m fs s ts (some e) = follow m fs s e ts
 
+  -- root step: node 0's variable edge for t
   unfoldable pub rootStep : Room → State → ℕ → Trees → Res Why Turn
-  rootStep m s t ts = rootBy m s ts (T .edge 0 1 t)
+  rootStep m s t ts = stepBy m (s .frames) s ts (T .edge 0 1 t)
 
   -- finish: one tree, which passes the check; else 4
   unfoldable pub finish : Trees → Res Why Turn
   finish ts = bind (when (eqb (length ts) 1 && check (T .rules) goal statement (flat ts)) misfit (flat ts)) λ l. ok (end l)
 
-  -- t is not wanted: at the end of the tokens a conversion to a wanted typecode is reduced and the walk finishes, frames or not
-  unfoldable pub convertBy : Room → State → ℕ → Trees → Option ℕ → Res Why Turn
+  -- a conversion to t, which is wanted, is reduced: without frames the walk finishes; else the top one is popped and its edge for t followed
+  unfoldable pub converted : Room → State → ℕ → List ℕ → Trees → Res Why Turn
+  converted m s t [] ts = finish ts
+  converted m s t (f ∷ fs) ts = stepBy m fs s ts (T .edge f 1 t)
+
+  -- t is not wanted: at the end of the tokens a conversion to a wanted typecode is reduced
+  unfoldable pub convertBy : Room → State → ℕ → Trees → Option Choice → Res Why Turn
   convertBy m s t ts none = rootStep m s t ts
-  convertBy m s t ts (some c) = bind (reduce (T .rules) (m .list) c 0 ts) finish
+  convertBy m s t ts (some k) = bind (reduce (T .rules) (m .list) (k .rule) 0 ts) (converted m s (k .to) (s .frames))
 
   unfoldable pub unwanted : Room → State → ℕ → Trees → List ℕ → Res Why Turn
   unwanted m s t ts [] = convertBy m s t ts (conversion (T .rules) 1 (s .frames) t)
@@ -172,5 +184,5 @@ walk T provable logic a m [] = refused tooFewTokens 0 0
 walk T provable logic a m (t ∷ xs) = run (pass T (wantedOf provable logic t) xs) a m 0 (start xs)
 
 unfoldable pub walking : Unit {0}
-unfolding source keyed find bare bind when numbering checking reducing tablesOf present comesFrom wanted conversion follow rootBy rootStep finish convertBy unwanted popBy goalBy complete leaf token branch passBy pass after run start wantedBy walk
+unfolding source keyed find bare bind when numbering checking reducing tablesOf present comesFrom wanted conversion follow stepBy rootStep finish converted convertBy unwanted popBy goalBy complete leaf token branch passBy pass after run start wantedBy walk
 walking = tt

@@ -12,7 +12,7 @@ ghost use Rattle.rows.specs.Rows.{edgeOf, tablesGood};
 ghost use Rattle.rows.specs.Code.{rowAt};
 ghost use Rattle.formula.specs.Code.{Inside};
 ghost use Rattle.walk.specs.Walk.{pass, run, start, wantedOf, walk};
-ghost use Rattle.walk.specs.Code.{stack, whyOf, wishOf, Wants, Converts, Chooses, Fit, Follows, Roots, Opens, Branches, Lies, Finishes, Closes, Bare, Stood, Ready, standAt, under, Unwanted, Completes, Leaves, nodeIs, Passes, startAt, Lent, roomOf, tables, Answers};
+ghost use Rattle.walk.specs.Code.{stack, whyOf, wishOf, Wants, Converts, Chooses, choiceOf, Fit, Follows, Steps, Roots, Opens, Branches, Lies, Finishes, Bare, Stood, Ready, standAt, under, withTrees, Converted, Closes, Unwanted, Completes, Leaves, nodeIs, Passes, startAt, Lent, roomOf, tables, Answers};
 
 // List room past this is not used: a tree's size is one word, and no walk comes near it.
 const MOST_ROOM: usize = 4294967295;
@@ -81,9 +81,15 @@ pub enum Turn {
     Stop(Why),
 }
 
+// A conversion: its rule, and the typecode that it goes to.
+pub struct Choice {
+    pub rule: words::RuleNo,
+    pub to: words::SymbolNo,
+}
+
 // The conversion that is taken at the end.
 pub enum Chosen {
-    By(words::RuleNo),
+    By(Choice),
     Nothing,
 }
 
@@ -171,7 +177,9 @@ fn conversion(rules: &[u32], edges: &[u32], wish: Wish, t: words::SymbolNo) -> C
     while i < rules.len() {
         k += 1;
         if converts(&rules[i..], edges, wish, t) {
-            return Chosen::By(words::RuleNo(k));
+            let to = rules::result_of(&rules[i..]);
+            let rule = words::RuleNo(k);
+            return Chosen::By(Choice { rule, to });
         }
         i += rules::size_of(&rules[i..]);
     }
@@ -210,6 +218,26 @@ fn follow(
     }
 }
 
+// The variable edge of node `from` for `t` is followed; none, no rule goes on.
+fn step(
+    rules: &[u32],
+    edges: &[u32],
+    from: words::NodeNo,
+    t: words::SymbolNo,
+    p: Stand,
+    list: &mut [u32],
+    work: &mut [u32],
+) -> Turn
+    requires { ⌜ Fit (now rules) (now edges) × Inside (p .room) (p .at .trees) (now list) (now work) ⌝ }
+    ensures { λ r. ⌜ Steps (now (rules .entry)) (now (edges .entry)) (p .room) (from .0) (t .0) (p .at) (now (list .entry)) (now (work .entry))
+        r (now (list .exit)) (now (work .exit)) ⌝ }
+{
+    let rows::Found::Row(row) = rows::look_up(edges, from, 1, t) else {
+        return Turn::Stop(Why::Unparseable(p.at.last));
+    };
+    follow(rules, edges, row, p, list, work)
+}
+
 // Root step: node 0's variable edge for `t` is followed.
 fn root_step(
     rules: &[u32],
@@ -223,10 +251,7 @@ fn root_step(
     ensures { λ r. ⌜ Roots (now (rules .entry)) (now (edges .entry)) (p .room) (t .0) (p .at) (now (list .entry)) (now (work .entry))
         r (now (list .exit)) (now (work .exit)) ⌝ }
 {
-    let rows::Found::Row(row) = rows::look_up(edges, words::NodeNo(0), 1, t) else {
-        return Turn::Stop(Why::Unparseable(p.at.last));
-    };
-    follow(rules, edges, row, p, list, work)
+    step(rules, edges, words::NodeNo(0), t, p, list, work)
 }
 
 // The top frame is popped.
@@ -236,6 +261,17 @@ fn under(p: Stand) -> Stand
 {
     let mut s = p.at;
     s.frames = s.frames - 1;
+    let mut q = p;
+    q.at = s;
+    q
+}
+
+// The trees are these.
+fn regrown(p: Stand, trees: formula::Trees) -> Stand
+    ensures { λ r. ⌜ r ≡ standAt p (withTrees (p .at) trees) ⌝ }
+{
+    let mut s = p.at;
+    s.trees = trees;
     let mut q = p;
     q.at = s;
     q
@@ -325,23 +361,51 @@ fn finish(
     Turn::End(n)
 }
 
-// The conversion is reduced and the walk finishes.
+// A conversion to `t` is reduced: without a frame the walk finishes; else the top one is popped and its edge for `t` followed.
+fn converted(
+    rules: &[u32],
+    edges: &[u32],
+    tokens: &[u32],
+    g: Grown,
+    list: &mut [u32],
+    work: &mut [u32],
+) -> Turn
+    requires { ⌜ Ready (now rules) (now edges) (now tokens) (g .stand) (now list) (now work) ⌝ }
+    ensures { λ r. ⌜ Converted (now (rules .entry)) (now (edges .entry)) (now (tokens .entry)) (g .stand) (now (list .entry)) (now (work .entry))
+        r (now (list .exit)) (now (work .exit)) (g .t .0) ⌝ }
+{
+    let p = g.stand;
+    let wish = p.wish;
+    let Wish::Frame(top) = wish else {
+        let s = p.at;
+        return finish(rules, tokens, p.goal, s.trees, list, work);
+    };
+    let q = under(p);
+    step(rules, edges, top, g.t, q, list, work)
+}
+
+// The conversion is reduced.
 fn convert(
     rules: &[u32],
+    edges: &[u32],
     tokens: &[u32],
-    rule: words::RuleNo,
+    k: Choice,
     p: Stand,
     list: &mut [u32],
     work: &mut [u32],
 ) -> Turn
-    requires { ⌜ (someRules (now rules) ≡ true) × (1 ≤ length (now tokens)) × Inside (p .room) (p .at .trees) (now list) (now work) ⌝ }
-    ensures { λ r. ⌜ Closes (now (rules .entry)) (p .goal .0) (now (tokens .entry)) (rule .0) (p .room) (p .at .trees) (now (list .entry)) (now (work .entry))
-        r (now (list .exit)) (now (work .exit)) ⌝ }
+    requires { ⌜ Ready (now rules) (now edges) (now tokens) p (now list) (now work) ⌝ }
+    ensures { λ r. ⌜ Closes (now (rules .entry)) (now (edges .entry)) (now (tokens .entry)) p (now (list .entry)) (now (work .entry))
+        r (now (list .exit)) (now (work .exit)) (choiceOf k) ⌝ }
 {
+    let t = k.to;
     let s = p.at;
-    let r = formula::reduce(rules, p.room, list, work, s.trees, rule, 0);
-    match r {
-        formula::Reduced::Done(reduced) => finish(rules, tokens, p.goal, reduced, list, work),
+    let done = formula::reduce(rules, p.room, list, work, s.trees, k.rule, 0);
+    match done {
+        formula::Reduced::Done(trees) => {
+            let stand = regrown(p, trees);
+            converted(rules, edges, tokens, Grown { t, stand }, list, work)
+        }
         formula::Reduced::TooFew => Turn::Stop(Why::Misfit),
         formula::Reduced::Full => Turn::Stop(Why::NoEntry),
     }
@@ -349,7 +413,7 @@ fn convert(
 
 // ---- a pass at a leaf
 
-// The tree is not wanted. Where no token is left a conversion to a wanted typecode ends the walk, frames or not; otherwise the root step.
+// The tree is not wanted. Where no token is left a conversion to a wanted typecode is reduced; otherwise the root step.
 fn unwanted(
     rules: &[u32],
     edges: &[u32],
@@ -368,10 +432,10 @@ fn unwanted(
         return root_step(rules, edges, t, p, list, work);
     }
     let wish = p.wish;
-    let Chosen::By(rule) = conversion(rules, edges, wish, t) else {
+    let Chosen::By(k) = conversion(rules, edges, wish, t) else {
         return root_step(rules, edges, t, p, list, work);
     };
-    convert(rules, tokens, rule, p, list, work)
+    convert(rules, edges, tokens, k, p, list, work)
 }
 
 // Without a frame: the goal is wanted, and finishes the walk where no token is left.
@@ -442,13 +506,11 @@ fn leaf(
         return Turn::Stop(Why::Misfit);
     };
     let t = rules::result_of(&rules[i..]);
-    let mut s = p.at;
+    let s = p.at;
     let done = formula::reduce(rules, p.room, list, work, s.trees, rule, 0);
     match done {
         formula::Reduced::Done(trees) => {
-            s.trees = trees;
-            let mut stand = p;
-            stand.at = s;
+            let stand = regrown(p, trees);
             complete(rules, edges, tokens, Grown { t, stand }, list, work)
         }
         formula::Reduced::TooFew => Turn::Stop(Why::Misfit),

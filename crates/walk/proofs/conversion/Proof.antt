@@ -30,11 +30,16 @@ converts-requires : tie.Need-converts-requires Inv-loop μ-loop
 converts-requires c κs =
     rw (part-all (now (c .before .before .before .before .before .args .rules)) (c .before .before .loop .i)) (here (c .before) .good)
 
+result-of-requires : tie.Need-result-of-requires Inv-loop μ-loop
+result-of-requires c κs =
+    rw (part-all (now (c .before .before .before .before .before .before .before .before .args .rules)) (c .before .before .before .before .before .loop .i)) (here (c .before .before .before .before) .good)
+
 returns : tie.Need-returns Inv-loop μ-loop
 returns c =
-    let l = c .before .before .before .before .loop in
-    let a = c .before .before .before .before .before .before .before .args in
-    trying-here (now (a .edges)) (a .wish) (now (a .rules)) (a .t .0) (l .i) (l .k) (l .inv .1) (c .before .before .before .loop-test .taken) (c .before .converts .ensures) (c .if1 .taken)
+    let l = c .before .before .before .before .before .before .loop in
+    let a = c .before .before .before .before .before .before .before .before .before .args in
+    trying-here (now (a .edges)) (a .wish) (now (a .rules)) (a .t .0) (l .i) (l .k) (l .inv .1) (c .before .before .before .before .before .loop-test .taken) (c .before .before .before .converts .ensures) (c .before .before .if1 .taken)
+    (c .result-of .result) (c .result-of .ensures)
 
 size-of-requires : tie.Need-size-of-requires Inv-loop μ-loop
 size-of-requires c κs =
@@ -69,6 +74,11 @@ conversion-spec =
     (λ c. search needs)
     (λ c. search needs)
     converts-requires
+    (λ c. search needs)
+    (λ c. search needs)
+    (λ c. search needs)
+    (λ c. search needs)
+    result-of-requires
     returns
     (λ c. search needs)
     (λ c. search needs)

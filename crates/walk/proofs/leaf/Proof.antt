@@ -3,7 +3,7 @@ use borrow.Author.Needs.{needs}
 use denote.Ref.{now}
 use Rattle.words.specs.laws.Parts.{part-all}
 use Rattle.rules.specs.Code.{Starts}
-use Rattle.walk.proofs.Parts.{leaf-missing, starts-at, is-missing, done-inside, leaf-done, leaf-few, leaf-full}
+use Rattle.walk.proofs.Parts.{leaf-missing, starts-at, is-missing, ready-with, leaf-done, leaf-few, leaf-full}
 use Rattle.walk.proofs.leaf.Statement.{statement}
 use Rattle.walk.proofs.leaf.Tie as tie
 
@@ -19,22 +19,14 @@ here c = starts-at (now (c .before .before .before .before .before .before .befo
 
 complete-requires : tie.Need-complete-requires
 complete-requires c κs =
-    let p = c .before .before .before .before .before .before .before .before .before .before .before .before .before .before .before .before .before .before .before .before .before .before .before .before .pre in
-    let r = c .before .before .before .done .given in
-    record {
-      fit = p .fit;
-      short = p .short;
-      begun = p .begun;
-      token = p .token;
-      framed = p .framed;
-      inside = done-inside (c .before .before .before .before .before .before .before .before .before .before .before .before .before .before .before .before .before .before .before .before .before .before .before .before .args .p .room) (c .before .before .before .before .before .before .before .before .before .reduce .ensures) (r .0 .0) (r .1);
-    }
+    let r = c .before .before .before .before .done .given in
+    rw (c .before .before .regrown .ensures) (ready-with (c .before .before .before .before .before .before .before .before .before .before .before .before .before .before .before .before .before .before .before .before .before .before .before .before .before .pre) (c .before .before .before .before .before .before .before .before .before .before .reduce .ensures) (r .0 .0) (r .1))
 
 returns-2 : tie.Need-returns-2
 returns-2 c =
-    let a = c .before .before .before .before .before .before .before .before .before .before .before .before .before .before .before .before .before .before .before .before .before .before .before .before .before .before .before .before .before .args in
+    let a = c .before .before .before .before .before .before .before .before .before .before .before .before .before .before .before .before .before .before .before .before .before .before .before .before .before .before .before .before .before .before .args in
     leaf-done (now (a .rules)) (now (a .edges)) (now (a .tokens)) (a .p) (now (a .list)) (now (a .work)) (a .rule .0)
-    (c .before .before .before .before .before .before .before .before .before .before .before .before .before .before .before .before .before .before .before .before .before .i .given .0 .0) (here (c .before .before .before .before .before .before .before .before .before .before .before .before .before .before .before .before .before .before .before .before)) (c .before .before .before .before .before .before .before .before .before .before .before .before .before .before .reduce .ensures) (c .before .before .before .before .before .before .before .before .done .given .0 .0) (c .before .before .before .before .before .before .before .before .done .given .1) (c .before .before .before .before .before .before .before .before .before .before .before .before .before .before .before .before .before .before .result-of .ensures) (c .before .before .before .before .complete .ensures)
+    (c .before .before .before .before .before .before .before .before .before .before .before .before .before .before .before .before .before .before .before .before .before .before .i .given .0 .0) (here (c .before .before .before .before .before .before .before .before .before .before .before .before .before .before .before .before .before .before .before .before .before)) (c .before .before .before .before .before .before .before .before .before .before .before .before .before .before .before .reduce .ensures) (c .before .before .before .before .before .before .before .before .before .done .given .0 .0) (c .before .before .before .before .before .before .before .before .before .done .given .1) (c .before .before .before .before .before .before .before .before .before .before .before .before .before .before .before .before .before .before .before .result-of .ensures) (rw (c .before .before .before .before .before .before .before .regrown .ensures) at (c .before .before .before .before .complete .ensures))
 
 returns-3 : tie.Need-returns-3
 returns-3 c =
@@ -63,6 +55,7 @@ leaf-spec =
     (λ c κs. rw (part-all (now (c .before .before .before .before .before .before .before .before .before .before .args .rules)) (c .before .before .i .given .0 .0)) (here (c .before) .good))
     (λ c κs. search needs)
     (λ c. search needs)
+    (λ c κs. search needs)
     complete-requires
     (λ c. search needs)
     (λ c. search needs)

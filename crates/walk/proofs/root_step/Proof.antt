@@ -1,26 +1,13 @@
 use borrow.Author.Needs.{needs}
 use denote.Ref.{now}
-use Rattle.walk.proofs.Parts.{root-none, root-row, slim-row}
+use Rattle.walk.proofs.Parts.{step-root}
 use Rattle.walk.proofs.root_step.Statement.{statement}
 use Rattle.walk.proofs.root_step.Tie as tie
 
 returns : tie.Need-returns
 returns c =
-    let a = c .before .before .before .before .before .before .before .args in
-    root-none (now (a .rules)) (now (a .edges)) (a .p .room) (a .t .0) (a .p .at) (now (a .list)) (now (a .work)) (c .before .before .look-up .ensures) (c .enum-told .given .1)
-
-follow-requires : tie.Need-follow-requires
-follow-requires c κs =
-    let row = c .before .before .before .row .given in
-    let f = slim-row (c .before .before .before .before .before .before .before .before .before .before .pre .0) 0 1 (c .before .before .before .before .before .before .before .before .before .before .args .t .0) (c .before .before .before .before .before .look-up .ensures) (row .0 .0) (row .1) in
-    (c .before .before .before .before .before .before .before .before .before .before .pre .0 .rules, f .0, f .1, c .before .before .before .before .before .before .before .before .before .before .pre .1)
-
-returns-2 : tie.Need-returns-2
-returns-2 c =
-    let a = c .before .before .before .before .before .before .before .before .before .before .before .before .before .before .before .args in
-    let row = c .before .before .before .before .before .before .before .before .row .given in
-    root-row (now (a .rules)) (now (a .edges)) (a .p .room) (a .t .0) (a .p .at) (now (a .list)) (now (a .work)) (c .before .before .before .before .before .before .before .before .before .before .look-up .ensures) (row .0 .0) (row .1)
-    (c .before .before .before .before .follow .ensures)
+    let a = c .before .before .before .before .before .before .before .before .before .before .before .args in
+    step-root (now (a .rules)) (now (a .edges)) (a .p .room) (a .t .0) (a .p .at) (now (a .list)) (now (a .work)) (c .before .before .before .before .step .ensures)
 
 pub root-step-spec : {M : Type 1} → statement M
 root-step-spec =
@@ -29,8 +16,4 @@ root-step-spec =
     (λ c κs. search needs)
     (λ c. search needs)
     (λ c. search needs)
-    returns
-    follow-requires
-    (λ c. search needs)
-    (λ c. search needs)
-    returns-2)
+    returns)

@@ -20,7 +20,7 @@ returns-3 : tie.Need-returns-3
 returns-3 c =
     let a = c .before .before .before .before .before .before .before .before .before .before .before .before .before .before .before .before .before .before .before .before .args in
     unwanted-by (now (a .rules)) (now (a .edges)) (now (a .tokens)) (a .g .stand) (now (a .list)) (now (a .work)) (a .g .t .0)
-    (c .before .before .before .before .before .before .before .before .before .before .before .if1 .left) (c .before .before .before .before .before .before .before .before .before .before .conversion .ensures) (c .before .before .before .before .before .before .before .before .rule .given .0 .0) (c .before .before .before .before .before .before .before .before .rule .given .1) (c .before .before .before .before .convert .ensures)
+    (c .before .before .before .before .before .before .before .before .before .before .before .if1 .left) (c .before .before .before .before .before .before .before .before .before .before .conversion .ensures) (c .before .before .before .before .before .before .before .before .k .given .0 .0) (c .before .before .before .before .before .before .before .before .k .given .1) (c .before .before .before .before .convert .ensures)
 
 pub unwanted-spec : {M : Type 1} → statement M
 unwanted-spec =

@@ -1,8 +1,8 @@
--- Tables that pass the table check, and list room past what a walk over them can fill: 17 entries for a token.
+-- Tables that pass the table check, and list room past what a walk over them can fill.
 use mathlib.Core.Path.{_≡_}
 use mathlib.Core.Bool.{true}
 use mathlib.Core.List.{List, _∷_}
-use Prim.Native.Nat.{ℕ, _*_, _≤_}
+use Prim.Native.Nat.{ℕ, _+_, _*_, _≤_}
 use native.Mathlib.Omega.{arith}
 use lib.ListN.{length}
 use Rattle.rules.specs.Rules.{Rule}
@@ -23,7 +23,7 @@ module _ (R : List Rule) (ns es : List ℕ) (g : tablesGood (length R) ns es ≡
   tables-slim n k t e h = edge-fair (tables-fair (length R) ns es g) n k t e h .few
 
   -- such room may as well be less
-  pub walk-ample : (provable logic a : ℕ) (m : Room) (t : ℕ) (xs : List ℕ) (room : ℕ) → 17 * length xs ≤ room → room ≤ m .list →
+  pub walk-ample : (provable logic a : ℕ) (m : Room) (t : ℕ) (xs : List ℕ) (room : ℕ) → 18 * length xs ≤ 7 + room → room ≤ m .list →
       let T = tablesOf R ns (edgesOf es) in
       walk T provable logic a m (t ∷ xs) ≡ walk T provable logic a (record { frames = m .frames; list = room }) (t ∷ xs)
   walk-ample provable logic a m t xs room h l =

@@ -8,7 +8,7 @@ use lib.ListN.{length}
 use Rattle.words.specs.Outcome.{Res}
 use Rattle.words.specs.Numbers.{noPass, Why, noFrame, number}
 use Rattle.walk.specs.Walk.{Tables, Room, State, Turn, pass, Walked, refused, run, start, walk}
-use Rattle.walk.specs.laws.View.{here, noted, ended, misfits, frames, taking, closing, Pass, halts, takes, pushes, pops, roots, ends}
+use Rattle.walk.specs.laws.View.{here, noted, ended, misfits, frames, taking, closing, popping, Pass, halts, takes, pushes, pops, roots, ends}
 use Rattle.walk.specs.laws.Runs.{Kept, run-kept}
 
 -- 0 at the root, else 1
@@ -49,6 +49,7 @@ module _ (T : Tables) (z : T .word 0 ≡ 0) (goal : ℕ) (statement : List ℕ) 
   sparse a n s i o (halts y (frames x xs r h full)) = absurd (omega (arith, inner-least (s .node) h, ap length r))
   sparse a n s i o (halts y (taking x xs r h)) = λ e. omega arith
   sparse a n s i o (halts y (closing w h)) = λ e. omega arith
+  sparse a n s i o (halts y (popping f fs w r h)) = λ e. omega arith
   sparse a n s i o (takes x xs e ts r h) = omega (arith, inner-most (e .to), ap length r)
   sparse a n s i o (pushes x xs r w h) = omega (arith, inner-least (s .node) h, ap length r)
   sparse a n s i o (pops f fs e ts w r h) = omega (arith, inner-most (e .to), ap length r)

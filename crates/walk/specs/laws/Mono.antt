@@ -14,7 +14,7 @@ use Rattle.words.specs.Numbers.{noPass, Why, noFrame, noEntry, number}
 use Rattle.rules.specs.Rules.{Rule, ruleAt}
 use Rattle.rows.specs.Rows.{Reduce, Edge}
 use Rattle.formula.specs.Reducing.{Trees, reduceBy, reduce, reduceAll}
-use Rattle.walk.specs.Walk.{Tables, Room, State, Turn, on, end, follow, rootBy, rootStep, convertBy, unwanted, popBy, goalBy, complete, leaf, token, branch, passBy, pass, Walked, after, run, walk}
+use Rattle.walk.specs.Walk.{Tables, Room, State, Turn, on, end, Choice, follow, stepBy, rootStep, converted, convertBy, unwanted, popBy, goalBy, complete, leaf, token, branch, passBy, pass, Walked, after, run, walk}
 
 -- refused for want of room that was enlarged
 data Scarce (m m′ : Room) : Why → Type 0 where
@@ -73,20 +73,27 @@ module _ (m m′ : Room) (h : More m m′) where
     unfolding follow
     follow-ext fs s e ts = bind-ext (reduceAll-ext (T .rules) (e .reduces) ts) λ ts. same
 
-    rootBy-ext : (s : State) (ts : Trees) (e : Option Edge) → Ext m m′ Turn (rootBy T goal statement m s ts e) (rootBy T goal statement m′ s ts e)
-    unfolding rootBy
-    rootBy-ext s ts none = same
-    rootBy-ext s ts (some e) = follow-ext (s .frames) s e ts
+    stepBy-ext : (fs : List ℕ) (s : State) (ts : Trees) (e : Option Edge)
+        → Ext m m′ Turn (stepBy T goal statement m fs s ts e) (stepBy T goal statement m′ fs s ts e)
+    unfolding stepBy
+    stepBy-ext fs s ts none = same
+    stepBy-ext fs s ts (some e) = follow-ext fs s e ts
 
     rootStep-ext : (s : State) (t : ℕ) (ts : Trees) → Ext m m′ Turn (rootStep T goal statement m s t ts) (rootStep T goal statement m′ s t ts)
     unfolding rootStep
-    rootStep-ext s t ts = rootBy-ext s ts _
+    rootStep-ext s t ts = stepBy-ext (s .frames) s ts _
 
-    convertBy-ext : (s : State) (t : ℕ) (ts : Trees) (c : Option ℕ)
+    converted-ext : (s : State) (t : ℕ) (fs : List ℕ) (ts : Trees)
+        → Ext m m′ Turn (converted T goal statement m s t fs ts) (converted T goal statement m′ s t fs ts)
+    unfolding converted
+    converted-ext s t [] ts = same
+    converted-ext s t (f ∷ fs) ts = stepBy-ext fs s ts _
+
+    convertBy-ext : (s : State) (t : ℕ) (ts : Trees) (c : Option Choice)
         → Ext m m′ Turn (convertBy T goal statement m s t ts c) (convertBy T goal statement m′ s t ts c)
     unfolding convertBy reduce
     convertBy-ext s t ts none = rootStep-ext s t ts
-    convertBy-ext s t ts (some c) = bind-ext (reduceBy-ext c 0 ts _) λ ts. same
+    convertBy-ext s t ts (some k) = bind-ext (reduceBy-ext (k .rule) 0 ts _) (converted-ext s (k .to) (s .frames))
 
     unwanted-ext : (s : State) (t : ℕ) (ts : Trees) (xs : List ℕ)
         → Ext m m′ Turn (unwanted T goal statement m s t ts xs) (unwanted T goal statement m′ s t ts xs)

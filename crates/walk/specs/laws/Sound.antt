@@ -13,7 +13,7 @@ use Rattle.formula.specs.Meaning.{Tree}
 use Rattle.formula.specs.Reducing.{Trees}
 use Rattle.formula.specs.laws.Check.{check-sound}
 use Rattle.walk.specs.Walk.{Tables, Room, State, Turn, pass, Walked, refused, run, start, wantedOf, walk}
-use Rattle.walk.specs.laws.View.{here, noted, ended, misfits, frames, taking, closing, Pass, halts, takes, pushes, pops, roots, ends}
+use Rattle.walk.specs.laws.View.{here, noted, ended, misfits, frames, taking, closing, popping, Pass, halts, takes, pushes, pops, roots, ends}
 use Rattle.walk.specs.laws.Runs.{Kept, run-kept}
 
 -- a place of the statement's n tokens, if node 0 is a branch and there is a token
@@ -61,6 +61,7 @@ module _ (T : Tables) (goal : ℕ) (statement : List ℕ) (m : Room) (all : ℕ)
   told a n s i o (halts y (frames x xs r h full)) = refuses 6 (suc n) (omega (arith, i .passes)) (omega arith) (omega arith)
   told a n s i o (halts y (taking x xs r h)) = refuses 7 (suc n) (omega (arith, i .passes)) (omega arith) (omega arith)
   told a n s i o (halts y (closing w h)) = refuses 7 (suc n) (omega (arith, i .passes)) (omega arith) (omega arith)
+  told a n s i o (halts y (popping f fs w r h)) = refuses 7 (suc n) (omega (arith, i .passes)) (omega arith) (omega arith)
   told a n s i o (takes x xs e ts r h) = record {
     next = omega (arith, i .next, ap length r);
     first = omega arith;

@@ -1,8 +1,8 @@
 -- What a pass can do, as a list of cases with their facts: the laws of the walk go by these cases and not by the definition of a pass.
-use mathlib.Core.Path.{_≡_, refl}
-use mathlib.Core.Bool.{Bool, true, false, false≢true, _||_, not}
+use mathlib.Core.Path.{_≡_, refl, ap}
+use mathlib.Core.Bool.{Bool, true, false, false≢true, _&&_, _||_, not}
 use mathlib.Core.List.{List, [], _∷_}
-use mathlib.Core.Option.{Option, some, none}
+use mathlib.Core.Option.{Option, some, none, Option·some-injective, Option·none-ne-some}
 use mathlib.Core.Logic.{_≢_}
 use Prim.Native.Nat.{ℕ, zero, suc, pred, _+_, _≤_, _<_}
 use native.Mathlib.Omega.{arith}
@@ -13,12 +13,12 @@ use Rattle.words.specs.Limits.{mostReduces}
 use Rattle.words.specs.Outcome.{Res, ok, no, bind, when}
 use Rattle.words.specs.Numbers.{Why, unparseable, tooShort, misfit, noFrame, noEntry}
 use Rattle.words.specs.laws.Tests.{and-r}
-use Rattle.rules.specs.Rules.{Rule}
+use Rattle.rules.specs.Rules.{Rule, source}
 use Rattle.rows.specs.Rows.{Edge}
 use Rattle.formula.specs.Check.{check}
 use Rattle.formula.specs.Reducing.{Trees, flat, reduce}
 use Rattle.walk.specs.laws.Reduced.{Reduced, done, unfit, crowded, bind-when, reduceBy-reduced, reduceAll-reduced}
-use Rattle.walk.specs.Walk.{Tables, Room, State, Turn, on, end, follow, rootBy, rootStep, finish, convertBy, unwanted, popBy, goalBy, complete, leaf, token, branch, passBy, pass}
+use Rattle.walk.specs.Walk.{Tables, Room, State, Turn, on, end, Choice, present, comesFrom, wanted, conversion, follow, stepBy, rootStep, finish, converted, convertBy, unwanted, popBy, goalBy, complete, leaf, token, branch, passBy, pass}
 
 -- ---- what is asked of the tables
 
@@ -51,6 +51,7 @@ module _ (T : Tables) (goal : ℕ) (statement : List ℕ) (m : Room) where
     frames : (x : ℕ) (xs : List ℕ) → s .rest ≡ x ∷ xs → s .node ≢ 0 → m .frames ≤ length (s .frames) → Cause s noFrame
     taking : (x : ℕ) (xs : List ℕ) → s .rest ≡ x ∷ xs → (Slim T → m .list < entries s + mostReduces) → Cause s noEntry
     closing : T .word (s .node) ≢ 0 → (Slim T → m .list < entries s + suc mostReduces) → Cause s noEntry
+    popping : (f : ℕ) (fs : List ℕ) → T .word (s .node) ≢ 0 → s .frames ≡ f ∷ fs → (Slim T → m .list < entries s + suc (suc mostReduces)) → Cause s noEntry
 
   -- `takes` and `pushes` at a branch with a token left; `pops`, `roots` and `ends` at a leaf
   pub data Pass (s : State) : Res Why Turn → Type 0 where
@@ -60,7 +61,7 @@ module _ (T : Tables) (goal : ℕ) (statement : List ℕ) (m : Room) where
     pushes : (x : ℕ) (xs : List ℕ) → s .rest ≡ x ∷ xs → T .word (s .node) ≡ 0 → s .node ≢ 0
         → Pass s (ok (on (record { node = 0; frames = s .node ∷ s .frames; trees = s .trees; rest = x ∷ xs; at = s .at; last = s .at })))
     pops : (f : ℕ) (fs : List ℕ) (e : Edge) (ts : Trees) → T .word (s .node) ≢ 0 → s .frames ≡ f ∷ fs
-        → Grows s (length (flat ts)) (suc mostReduces)
+        → Grows s (length (flat ts)) (suc (suc mostReduces))
         → Pass s (ok (on (record { node = e .to; frames = fs; trees = ts; rest = s .rest; at = s .at; last = s .last })))
     roots : (t : ℕ) (e : Edge) (ts : Trees) → T .word (s .node) ≢ 0 → T .edge 0 1 t ≡ some e
         → Grows s (length (flat ts)) (suc mostReduces)
@@ -76,22 +77,48 @@ module _ (T : Tables) (goal : ℕ) (statement : List ℕ) (m : Room) where
   bind-view s ts k x f unfit c h = halts misfit misfits
   bind-view s ts k x f (crowded r) c h = halts noEntry (c r)
 
-  -- at a leaf, after its own reduce
-  module _ (s : State) (z : T .word (s .node) ≢ 0) (ts : Trees) (g : length (flat ts) ≡ entries s + 1)
+  -- the conversion that is chosen goes to a wanted typecode
+  chosen-wanted : (qs : List Rule) (c : ℕ) (fs : List ℕ) (t : ℕ) (k : Choice) → conversion T goal statement qs c fs t ≡ some k
+      → wanted T goal statement fs (k .to) ≡ true
+  unfolding conversion
+  chosen-wanted [] c fs t k h = absurd (Option·none-ne-some k h)
+  chosen-wanted (q ∷ qs) c fs t k h = by (comesFrom (source (q .body)) t) (wanted T goal statement fs (q .result)) refl (chosen-wanted qs (suc c) fs t k) h
+    where
+      by : (a b : Bool) → wanted T goal statement fs (q .result) ≡ b
+          → (conversion T goal statement qs (suc c) fs t ≡ some k → wanted T goal statement fs (k .to) ≡ true)
+          → elim (a && b) [ true ↦ some (record { rule = c; to = q .result }) | false ↦ conversion T goal statement qs (suc c) fs t ] ≡ some k
+          → wanted T goal statement fs (k .to) ≡ true
+      by true true w later e = rw (← (ap (λ (x : Choice). x .to) (Option·some-injective _ _ e))) w
+      by true false w later e = later e
+      by false b w later e = later e
+
+  -- after reduces at a leaf that added d entries, a variable edge is followed
+  module _ (s : State) (z : T .word (s .node) ≢ 0) (ts : Trees) (d : ℕ) (g : length (flat ts) ≡ entries s + d)
       (i : entries s ≤ m .list → length (flat ts) ≤ m .list) where
     follow-view : (fs : List ℕ) (n t : ℕ) (e : Edge) → T .edge n 1 t ≡ some e
-        → ((us : Trees) → Grows s (length (flat us)) (suc mostReduces)
+        → ((Slim T → m .list < entries s + (d + mostReduces)) → Cause s noEntry)
+        → ((us : Trees) → Grows s (length (flat us)) (d + mostReduces)
         → Pass s (ok (on (record { node = e .to; frames = fs; trees = us; rest = s .rest; at = s .at; last = s .last }))))
         → Pass s (follow T goal statement m fs s e ts)
     unfolding follow
-    follow-view fs n t e h k = bind-view s ts _ _ _ (reduceAll-reduced (T .rules) (m .list) (e .reduces) ts)
-        (λ r. closing z λ slim. omega (arith, r, g, slim n 1 t e h))
-        λ us d j. k us (record { few = λ slim. omega (arith, d, g, slim n 1 t e h); fits = λ l. j (i l) })
+    follow-view fs n t e h c k = bind-view s ts _ _ _ (reduceAll-reduced (T .rules) (m .list) (e .reduces) ts)
+        (λ r. c λ slim. omega (arith, r, g, slim n 1 t e h))
+        λ us a j. k us (record { few = λ slim. omega (arith, a, g, slim n 1 t e h); fits = λ l. j (i l) })
 
-    rootBy-view : (t : ℕ) (o : Option Edge) → T .edge 0 1 t ≡ o → Pass s (rootBy T goal statement m s ts o)
-    unfolding rootBy
+  -- a frame is popped, by the tree's own typecode or by one that it was converted to
+  pop-view : (s : State) (z : T .word (s .node) ≢ 0) (ts : Trees) (d : ℕ) → d ≤ 2 → length (flat ts) ≡ entries s + d
+      → (entries s ≤ m .list → length (flat ts) ≤ m .list) → (f : ℕ) (fs : List ℕ) → s .frames ≡ f ∷ fs → (t : ℕ) (e : Edge) → T .edge f 1 t ≡ some e
+      → Pass s (follow T goal statement m fs s e ts)
+  pop-view s z ts d l g i f fs r t e h = follow-view s z ts d g i fs f t e h (λ c. popping f fs z r λ slim. omega (arith, c slim))
+      λ us k. pops f fs e us z r (record { few = λ slim. omega (arith, k .few slim); fits = k .fits })
+
+  -- at a leaf, after its own reduce
+  module _ (s : State) (z : T .word (s .node) ≢ 0) (ts : Trees) (g : length (flat ts) ≡ entries s + 1)
+      (i : entries s ≤ m .list → length (flat ts) ≤ m .list) where
+    rootBy-view : (t : ℕ) (o : Option Edge) → T .edge 0 1 t ≡ o → Pass s (stepBy T goal statement m (s .frames) s ts o)
+    unfolding stepBy
     rootBy-view t none h = halts _ (noted z)
-    rootBy-view t (some e) h = follow-view _ 0 t e h λ us. roots t e us z h
+    rootBy-view t (some e) h = follow-view s z ts 1 g i (s .frames) 0 t e h (closing z) λ us. roots t e us z h
 
     rootStep-view : (t : ℕ) → Pass s (rootStep T goal statement m s t ts)
     unfolding rootStep
@@ -101,22 +128,36 @@ module _ (T : Tables) (goal : ℕ) (statement : List ℕ) (m : Room) where
     unfolding finish
     finish-view us h = bind-when (Pass s) _ misfit (flat us) _ (halts misfit misfits) λ b. ends (flat us) z (and-r (eqb (length us) 1) _ b) h
 
-    convertBy-view : (t : ℕ) (c : Option ℕ) → Pass s (convertBy T goal statement m s t ts c)
+    popped-view : (us : Trees) → length (flat us) ≡ entries s + 2 → (entries s ≤ m .list → length (flat us) ≤ m .list)
+        → (f : ℕ) (fs : List ℕ) → s .frames ≡ f ∷ fs → (t : ℕ) → (o : Option Edge) → T .edge f 1 t ≡ o → present o ≡ true
+        → Pass s (stepBy T goal statement m fs s us o)
+    unfolding stepBy present
+    popped-view us d j f fs r t none h w = absurd (false≢true w)
+    popped-view us d j f fs r t (some e) h w = pop-view s z us 2 (omega arith) d j f fs r t e h
+
+    converted-view : (us : Trees) → length (flat us) ≡ entries s + 2 → (entries s ≤ m .list → length (flat us) ≤ m .list)
+        → (t : ℕ) (fs : List ℕ) → s .frames ≡ fs → wanted T goal statement fs t ≡ true → Pass s (converted T goal statement m s t fs us)
+    unfolding converted wanted
+    converted-view us d j t [] r w = finish-view us (record { few = λ slim. omega (arith, d); fits = j })
+    converted-view us d j t (f ∷ fs) r w = popped-view us d j f fs r t _ refl w
+
+    convertBy-view : (t : ℕ) (o : Option Choice) → conversion T goal statement (T .rules) 1 (s .frames) t ≡ o
+        → Pass s (convertBy T goal statement m s t ts o)
     unfolding convertBy reduce
-    convertBy-view t none = rootStep-view t
-    convertBy-view t (some c) = bind-view s ts 1 _ _ (reduceBy-reduced (m .list) c 0 ts _)
+    convertBy-view t none h = rootStep-view t
+    convertBy-view t (some k) h = bind-view s ts 1 _ _ (reduceBy-reduced (m .list) (k .rule) 0 ts _)
         (λ r. closing z λ slim. omega (arith, r, g))
-        λ us d j. finish-view us (record { few = λ slim. omega (arith, d, g); fits = λ l. j (i l) })
+        λ us d j. converted-view us (omega (arith, d, g)) (λ l. j (i l)) (k .to) (s .frames) refl (chosen-wanted (T .rules) 1 (s .frames) t k h)
 
     unwanted-view : (t : ℕ) (xs : List ℕ) → Pass s (unwanted T goal statement m s t ts xs)
     unfolding unwanted
-    unwanted-view t [] = convertBy-view t _
+    unwanted-view t [] = convertBy-view t _ refl
     unwanted-view t (x ∷ xs) = rootStep-view t
 
     popBy-view : (t f : ℕ) (fs : List ℕ) → s .frames ≡ f ∷ fs → (o : Option Edge) → T .edge f 1 t ≡ o → Pass s (popBy T goal statement m s t ts fs o)
     unfolding popBy
     popBy-view t f fs r none h = unwanted-view t _
-    popBy-view t f fs r (some e) h = follow-view fs f t e h λ us. pops f fs e us z r
+    popBy-view t f fs r (some e) h = pop-view s z ts 1 (omega arith) g i f fs r t e h
 
     goalBy-view : (t : ℕ) (xs : List ℕ) (b : Bool) → Pass s (goalBy T goal statement m s t ts xs b)
     unfolding goalBy
