@@ -34,6 +34,18 @@ set-3 = 2 ∷ 1 ∷ 0 ∷ 10 ∷ 2 ∷ 1 ∷ 1 ∷ 4 ∷ 2 ∷ 2 ∷ 1 ∷ 2 ∷
 set-4 : List ℕ
 set-4 = 5 ∷ 1 ∷ 0 ∷ 10 ∷ 2 ∷ 1 ∷ 1 ∷ 5 ∷ 3 ∷ 1 ∷ 1 ∷ 2 ∷ 2 ∷ 2 ∷ 1 ∷ 2 ∷ 1 ∷ 3 ∷ []
 
+-- 1: 20 [c30]; 2: 22 [s20]; 3: 21 [s20]; 4: 2 [c31 s23]; 5: 23 [s21]; 6: 23 [s22]
+set-5 : List ℕ
+set-5 = 20 ∷ 1 ∷ 0 ∷ 30 ∷ 22 ∷ 1 ∷ 1 ∷ 20 ∷ 21 ∷ 1 ∷ 1 ∷ 20 ∷ 2 ∷ 2 ∷ 0 ∷ 31 ∷ 1 ∷ 23 ∷ 23 ∷ 1 ∷ 1 ∷ 21 ∷ 23 ∷ 1 ∷ 1 ∷ 22 ∷ []
+
+-- 1: 20 [c30]; 2: 21 [s20]; 3: 22 [s21]; 4: 23 [s22]; 5: 2 [c31 s23]
+set-6 : List ℕ
+set-6 = 20 ∷ 1 ∷ 0 ∷ 30 ∷ 21 ∷ 1 ∷ 1 ∷ 20 ∷ 22 ∷ 1 ∷ 1 ∷ 21 ∷ 23 ∷ 1 ∷ 1 ∷ 22 ∷ 2 ∷ 2 ∷ 0 ∷ 31 ∷ 1 ∷ 23 ∷ []
+
+-- set T with 4: 2 [c31 s22 c32]
+set-7 : List ℕ
+set-7 = 20 ∷ 1 ∷ 0 ∷ 30 ∷ 21 ∷ 1 ∷ 1 ∷ 20 ∷ 22 ∷ 1 ∷ 1 ∷ 21 ∷ 2 ∷ 3 ∷ 0 ∷ 31 ∷ 1 ∷ 22 ∷ 0 ∷ 32 ∷ []
+
 more : List Row
 more = row words-S (1 ∷ 5 ∷ 6 ∷ []) 2 2 [] 3
     -- allowance, frame room, list room; the shorter of list and work is the list room
@@ -55,11 +67,20 @@ more = row words-S (1 ∷ 5 ∷ 6 ∷ []) 2 2 [] 3
     -- tokens outside 1 to 65,535 match nothing
     ∷ row words-S (1 ∷ 0 ∷ []) 2 1 [] 1
     ∷ row words-S (1 ∷ 65546 ∷ []) 2 1 [] 1
-    -- where the Rust accepts or panics
-    ∷ row set-1 (2 ∷ 11 ∷ 10 ∷ []) 4 0 [] 4
-    ∷ row set-2 (4 ∷ 14 ∷ 12 ∷ []) 4 0 [] 4
+    -- where the Rust accepts something else, or panics
+    ∷ row set-1 (2 ∷ 11 ∷ 10 ∷ []) 0 0 (3 ∷ 1 ∷ 2 ∷ 4 ∷ []) 5
+    ∷ row set-2 (4 ∷ 14 ∷ 12 ∷ []) 0 0 (4 ∷ 1 ∷ 2 ∷ 3 ∷ []) 5
     ∷ row set-3 (3 ∷ 10 ∷ 10 ∷ []) 4 0 [] 4
-    ∷ row set-4 (2 ∷ 10 ∷ 10 ∷ []) 4 0 [] 5
+    ∷ row set-4 (2 ∷ 10 ∷ 10 ∷ []) 0 0 (1 ∷ 2 ∷ 1 ∷ 2 ∷ 3 ∷ 4 ∷ []) 6
+    -- at the end with a frame left: the first conversion to what it wants; none where it takes two, and none while tokens are left
+    ∷ row set-5 (1 ∷ 31 ∷ 30 ∷ []) 0 0 (1 ∷ 2 ∷ 6 ∷ 4 ∷ []) 5
+    ∷ row set-6 (1 ∷ 31 ∷ 30 ∷ []) 2 2 [] 4
+    ∷ row words-T (21 ∷ 30 ∷ []) 0 0 (1 ∷ 2 ∷ []) 2
+    ∷ parses words-T (1 ∷ 31 ∷ 30 ∷ []) 100 (lent 1 4 4) 0 0 (1 ∷ 2 ∷ 3 ∷ 4 ∷ []) 5
+    ∷ parses words-T (1 ∷ 31 ∷ 30 ∷ []) 100 (lent 1 3 4) 7 0 [] 5
+    ∷ parses words-T (1 ∷ 31 ∷ 30 ∷ []) 100 (lent 1 4 2) 7 0 [] 4
+    ∷ row set-7 (1 ∷ 31 ∷ 30 ∷ []) 3 2 [] 5
+    ∷ row set-7 (1 ∷ 31 ∷ 30 ∷ 32 ∷ []) 2 2 [] 4
     -- the check alone
     ∷ checks words-S ten (1 ∷ 2 ∷ 7 ∷ []) 0
     ∷ checks words-S ten (2 ∷ 1 ∷ 7 ∷ []) 4
@@ -71,7 +92,7 @@ more = row words-S (1 ∷ 5 ∷ 6 ∷ []) 2 2 [] 3
     ∷ []
 
 more-rows : every more ≡ true
-unfolding more set-1 set-2 set-3 set-4 opening
+unfolding more set-1 set-2 set-3 set-4 set-5 set-6 set-7 opening
 more-rows = refl
 
 -- ---- the order of refusals, by words that are bad in several ways

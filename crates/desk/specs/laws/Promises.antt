@@ -182,11 +182,13 @@ module _ (q : Asked) (a : ℕ) (s : Lent) where
       λ p. by-tokens (q .tokens) (λ ts. answers ts .number ≢ number noFrame) (p .long)
       λ t xs e l. walk-frames _ (tables-ok (theRules (q .rules)) (q .nodes) (q .edges) (p .tables) .root) _ _ a (walkRoom s) t xs (omega (arith, ap length e))
 
-  pub list-enough : 17 * (length (q .tokens) - 1) ≤ s .list → 17 * (length (q .tokens) - 1) ≤ s .work → parseGives q a s .number ≢ number noEntry
+  pub list-enough : 18 * (length (q .tokens) - 1) ≤ 7 + s .list → 18 * (length (q .tokens) - 1) ≤ 7 + s .work → parseGives q a s .number ≢ number noEntry
   unfolding parseGives parsed number
   list-enough h k = number-is q (number noEntry) a (walkRoom s) (λ e. omega arith) (λ e. omega arith) (λ e. omega arith) (λ e. omega arith)
       λ p. by-tokens (q .tokens) (λ ts. answers ts .number ≢ number noEntry) (p .long)
-      λ t xs e l. walk-list _ (tables-ok (theRules (q .rules)) (q .nodes) (q .edges) (p .tables)) (tables-slim (theRules (q .rules)) (q .nodes) (q .edges) (p .tables)) _ _ a (walkRoom s) t xs (lesser-is (s .list) (s .work) (17 * length xs) (omega (arith, ap length e)) (omega (arith, ap length e)))
+      λ t xs e l.
+      let r : 18 * length xs - 7 ≤ lesser (s .list) (s .work) = lesser-is (s .list) (s .work) (18 * length xs - 7) (omega (arith, ap length e)) (omega (arith, ap length e)) in
+      walk-list _ (tables-ok (theRules (q .rules)) (q .nodes) (q .edges) (p .tables)) (tables-slim (theRules (q .rules)) (q .nodes) (q .edges) (p .tables)) _ _ a (walkRoom s) t xs (omega (arith, r))
 
 -- ---- yes-exactly: the check alone says 0 exactly for a list that means the statement
 

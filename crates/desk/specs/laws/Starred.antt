@@ -73,7 +73,7 @@ starred = row words-S [] 1 0 [] 0
     ∷ row words-S (1 ∷ 10 ∷ 10 ∷ []) 2 1 [] 2
     ∷ row words-S (1 ∷ 6 ∷ []) 2 1 [] 1
     ∷ row words-S (1 ∷ 5 ∷ 10 ∷ []) 3 2 [] 5
-    ∷ row words-T (1 ∷ 31 ∷ 30 ∷ []) 4 0 [] 4
+    ∷ row words-T (1 ∷ 31 ∷ 30 ∷ []) 0 0 (1 ∷ 2 ∷ 3 ∷ 4 ∷ []) 5
     ∷ checks words-T (1 ∷ 31 ∷ 30 ∷ []) (1 ∷ 2 ∷ 3 ∷ 4 ∷ []) 0
     ∷ []
 

@@ -4,6 +4,7 @@ use mathlib.Core.Bool.{Bool, true, _&&_}
 use mathlib.Core.List.{List, [], _∷_}
 use Prim.Native.Nat.{ℕ}
 use lib.Dec.{eqb}
+use lib.ListN.{replicate}
 use Rattle.words.specs.Outcome.{sameWords}
 use Rattle.rules.specs.Rules.{con, slot, Rule}
 use Rattle.rules.specs.Sheet.{rule, rules-S, sets}
@@ -23,6 +24,23 @@ at r o = record { rule = r; offset = o }
 T : Tables
 T = tablesOf (rule 20 (con 30 ∷ []) ∷ rule 21 (slot 20 ∷ []) ∷ rule 22 (slot 21 ∷ []) ∷ rule 2 (con 31 ∷ slot 22 ∷ []) ∷ []) (0 ∷ 1 ∷ 0 ∷ 4 ∷ [])
     (edge 0 0 30 1 [] ∷ edge 0 0 31 2 [] ∷ edge 2 1 22 3 [] ∷ edge 2 1 21 3 (at 3 0 ∷ []) ∷ [])
+
+-- the same with a constant after the slot
+T32 : Tables
+T32 = tablesOf (rule 20 (con 30 ∷ []) ∷ rule 21 (slot 20 ∷ []) ∷ rule 22 (slot 21 ∷ []) ∷ rule 2 (con 31 ∷ slot 22 ∷ con 32 ∷ []) ∷ [])
+    (0 ∷ 1 ∷ 0 ∷ 0 ∷ 4 ∷ []) (edge 0 0 30 1 [] ∷ edge 0 0 31 2 [] ∷ edge 2 1 22 3 [] ∷ edge 3 0 32 4 [] ∷ edge 2 1 21 3 (at 3 0 ∷ []) ∷ [])
+
+-- a frame at a node whose constant is in the tree already: no grown table has one
+early : Tables
+early = tablesOf (rule 3 (con 10 ∷ []) ∷ rule 4 (slot 3 ∷ con 11 ∷ []) ∷ rule 2 (slot 4 ∷ []) ∷ []) (0 ∷ 0 ∷ 2 ∷ [])
+    (edge 0 0 10 1 (at 1 0 ∷ []) ∷ edge 0 0 11 2 [] ∷ edge 1 1 2 1 [] ∷ [])
+
+-- five reduces on every edge. Each token leads to a leaf and from there to a branch that becomes a frame, and each frame is popped by a conversion
+five : List Reduce
+five = at 1 0 ∷ at 1 0 ∷ at 1 0 ∷ at 1 0 ∷ at 1 0 ∷ []
+
+crowded : Tables
+crowded = tablesOf (rule 3 (con 10 ∷ []) ∷ rule 4 (slot 3 ∷ []) ∷ []) (0 ∷ 1 ∷ 0 ∷ []) (edge 0 0 10 1 five ∷ edge 0 1 3 2 five ∷ edge 2 1 4 1 five ∷ [])
 
 -- one token, 30, of typecode 20, and two conversions to 21
 W : Rule → Rule → Tables
@@ -91,6 +109,22 @@ rows = row S [] 1 0 [] 0
     -- conversions: from the tree's typecode, and the first of two
     ∷ row (W (rule 21 (slot 23 ∷ [])) (rule 21 (slot 20 ∷ []))) (21 ∷ 30 ∷ []) 0 0 (1 ∷ 3 ∷ []) 2
     ∷ row (W (rule 21 (slot 20 ∷ [])) (rule 21 (slot 20 ∷ []))) (21 ∷ 30 ∷ []) 0 0 (1 ∷ 2 ∷ []) 2
+    -- with a frame left: the conversion, then the reduces of the frame's edge; without one the walk finishes
+    ∷ limited T (1 ∷ 31 ∷ 30 ∷ []) 100 1 4 0 0 (1 ∷ 2 ∷ 3 ∷ 4 ∷ []) 5
+    ∷ limited T (1 ∷ 31 ∷ 30 ∷ []) 100 1 3 7 0 [] 5
+    ∷ limited T (1 ∷ 31 ∷ 30 ∷ []) 100 1 2 7 0 [] 4
+    ∷ limited T (1 ∷ 31 ∷ 30 ∷ []) 100 1 1 7 0 [] 4
+    ∷ limited T (1 ∷ 31 ∷ 30 ∷ []) 100 1 0 7 0 [] 4
+    ∷ row T (21 ∷ 30 ∷ []) 0 0 (1 ∷ 2 ∷ []) 2
+    -- the walk goes on from there, to a branch too, and with tokens left there is no conversion
+    ∷ row T32 (1 ∷ 31 ∷ 30 ∷ []) 3 2 [] 5
+    ∷ row T32 (1 ∷ 31 ∷ 30 ∷ 32 ∷ []) 2 2 [] 4
+    ∷ row early (1 ∷ 10 ∷ 11 ∷ []) 3 2 [] 5
+    -- eight tokens need 31 passes, 7 frames and 137 list entries
+    ∷ limited crowded (2 ∷ replicate 8 10) 31 7 137 3 8 [] 31
+    ∷ limited crowded (2 ∷ replicate 8 10) 30 7 137 5 0 [] 30
+    ∷ limited crowded (2 ∷ replicate 8 10) 31 6 137 6 0 [] 21
+    ∷ limited crowded (2 ∷ replicate 8 10) 31 7 136 7 0 [] 30
     -- look-ups
     ∷ row bareBranch (1 ∷ 10 ∷ 11 ∷ []) 2 2 [] 2
     ∷ row twoRows (1 ∷ 10 ∷ []) 0 0 (1 ∷ []) 2
@@ -114,5 +148,5 @@ every [] = true
 every (r ∷ rs) = agree r (walk (r .tables) 1 2 (r .allowance) (record { frames = r .frames; list = r .room }) (r .tokens)) && every rs
 
 claim : every rows ≡ true
-unfolding every rows agree S T W bareBranch oneLeaf twoRows sets tables sameWords walking
+unfolding every rows agree S T T32 early five crowded W bareBranch oneLeaf twoRows sets tables sameWords walking
 claim = refl
