@@ -37,7 +37,7 @@ use Rattle.walk.specs.laws.Bound.{walk-bound}
 use Rattle.walk.specs.laws.Frames.{walk-frames}
 use Rattle.walk.specs.laws.Length.{walk-list}
 use Rattle.walk.specs.laws.Within.{walk-within}
-use Rattle.walk.specs.laws.Sound.{walk-checked, walk-unlisted, walk-numbers}
+use Rattle.walk.specs.laws.Sound.{walk-checked, walk-unlisted, walk-numbers, walk-placeless, walk-place}
 use Rattle.desk.specs.Entry.{bodyGives, Built, notBuilt, builtBy, buildAfter, buildRoom, buildGives, Parsed, Lent, walkRoom, parsed, theTables, Asked, parseDemands, walkAfter, walkOf, parseGives, verifyDemands, Verified, verifyGives, Means}
 
 -- ---- determined: what an entry point gives back is a value of its definition, so two results that meet it are one, every lent word included
@@ -260,6 +260,37 @@ accepted-by q a m = after-by q (λ w. w .number ≡ 0 → Means (theRules (q .ru
 pub accepted-means : (q : Asked) (a : ℕ) (s : Lent) → parseGives q a s .number ≡ 0 → Means (theRules (q .rules)) (q .provable) (q .logic) (q .tokens) (listOf (parseGives q a s))
 unfolding parseGives parsed
 accepted-means q a s e = rw (list-of s (walkOf q a (walkRoom s))) (accepted-by q a (walkRoom s) e)
+
+-- ---- places: 2 and 3 come with the place of a token after the typecode, and no other answer with a place
+
+-- of n tokens, the typecode among them
+pub record Points (n number place : ℕ) : Type 0 where
+  pub unparseable : number ≡ 2 → (1 ≤ place) × (place < n)
+  pub too-short : number ≡ 3 → (1 ≤ place) × (place < n)
+  pub others : number ≢ 2 → number ≢ 3 → place ≡ 0
+
+points-walk : (q : Asked) (a : ℕ) (m : passes.Room) → Passed q → let w = walked q a m in Points (length (q .tokens)) (w .number) (w .place)
+unfolding tablesOf
+points-walk q a m p =
+    let T = theTables (q .rules) (q .nodes) (q .edges) in
+    let z = tables-ok (theRules (q .rules)) (q .nodes) (q .edges) (p .tables) .root in
+    by-tokens (q .tokens) (λ ts. let w = walk T (q .provable) (q .logic) a m ts in Points (length ts) (w .number) (w .place)) (p .long) λ t xs _ l.
+    let at = walk-place T (q .provable) (q .logic) a m t xs z l in
+    record {
+      unparseable = λ e. let r = at (omega arith) (omega arith) in (r .0, omega (arith, r .1));
+      too-short = λ e. let r = at (omega arith) (omega arith) in (r .0, omega (arith, r .1));
+      others = walk-placeless T (q .provable) (q .logic) a m t xs;
+    }
+
+pub places : (q : Asked) (a : ℕ) (s : Lent) → Points (length (q .tokens)) (parseGives q a s .number) (parseGives q a s .place)
+unfolding parseGives parsed walkOf
+places q a s = after-by q (λ w. Points (length (q .tokens)) (w .number) (w .place)) a (walkRoom s) (firstFault (parseDemands q))
+    (λ z. points-walk q a (walkRoom s) (demands-passed q z))
+    λ z. record {
+      unparseable = λ e. absurd (early q 2 (λ e. omega arith) (λ e. omega arith) (λ e. omega arith) (λ e. omega arith) z e);
+      too-short = λ e. absurd (early q 3 (λ e. omega arith) (λ e. omega arith) (λ e. omega arith) (λ e. omega arith) z e);
+      others = λ e f. refl;
+    }
 
 -- ---- refused-zeros: a refusal leaves zeros in every slice lent for writing
 

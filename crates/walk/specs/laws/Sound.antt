@@ -9,9 +9,7 @@ use lib.ListN.{length}
 use Rattle.words.specs.Outcome.{Res}
 use Rattle.words.specs.Numbers.{accepted, noPass, Why, number, place}
 use Rattle.formula.specs.Check.{check}
-use Rattle.formula.specs.Meaning.{Tree}
 use Rattle.formula.specs.Reducing.{Trees}
-use Rattle.formula.specs.laws.Check.{check-sound}
 use Rattle.walk.specs.Walk.{Tables, Room, State, Turn, pass, Walked, refused, run, start, wantedOf, walk}
 use Rattle.walk.specs.laws.View.{here, noted, ended, misfits, frames, taking, closing, popping, Pass, halts, takes, pushes, pops, roots, ends}
 use Rattle.walk.specs.laws.Runs.{Kept, run-kept}
@@ -129,11 +127,6 @@ module _ (T : Tables) (provable logic a : ℕ) (m : Room) (t : ℕ) (xs : List �
   pub walk-checked : walk T provable logic a m (t ∷ xs) .number ≡ 0
       → check (T .rules) (wantedOf provable logic t) xs (walk T provable logic a m (t ∷ xs) .list) ≡ true
   walk-checked e = checked T _ xs a (walk-answers T provable logic a m t xs) e
-
-  -- an accepted list is the list of a tree of the wanted typecode, and its tokens are the statement's
-  pub walk-sound : walk T provable logic a m (t ∷ xs) .number ≡ 0
-      → Tree (T .rules) (wantedOf provable logic t) xs (walk T provable logic a m (t ∷ xs) .list)
-  walk-sound e = check-sound (T .rules) _ xs _ (walk-checked e)
 
   pub walk-unlisted : walk T provable logic a m (t ∷ xs) .number ≢ 0 → walk T provable logic a m (t ∷ xs) .list ≡ []
   walk-unlisted h = unlisted T _ xs a (walk-answers T provable logic a m t xs) h
