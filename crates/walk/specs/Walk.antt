@@ -88,7 +88,8 @@ module _ (T : Tables) (goal : ℕ) (statement : List ℕ) where
   unfoldable pub finish : Trees → Res Why Turn
   finish ts = bind (when (eqb (length ts) 1 && check (T .rules) goal statement (flat ts)) misfit (flat ts)) λ l. ok (end l)
 
-  -- a conversion to t, which is wanted, is reduced: without frames the walk finishes; else the top one is popped and its edge for t followed
+  -- a conversion to t was reduced: without frames the walk finishes; else the top one is popped and its edge for t followed, which is there since
+  -- t is wanted
   unfoldable pub converted : Room → State → ℕ → List ℕ → Trees → Res Why Turn
   converted m s t [] ts = finish ts
   converted m s t (f ∷ fs) ts = stepBy m fs s ts (T .edge f 1 t)
