@@ -7,7 +7,7 @@ use crate::forest::Forest;
 use crate::grammar::Grammar;
 use crate::numbers::{NodeNo, Refusal, RuleNo, Symbol, ROOT};
 use crate::rows::{Edge, Node, Reduce};
-use crate::rules::Item;
+use crate::rules::{Conversion, Item};
 
 /// What a walk may use up.
 #[derive(Clone, Copy, Debug)]
@@ -124,8 +124,17 @@ impl<'a> Walk<'a> {
             };
         }
         match self.last_conversion(typecode) {
-            Some(conversion) if ended => self.reduce_whole(conversion).map(|()| Turn::Finish),
+            Some(conversion) if ended => self.convert(conversion),
             _ => self.follow_variable(ROOT, typecode),
+        }
+    }
+
+    /// At the end of the tokens: the converted tree is what the frame waits for, or without frames the whole.
+    fn convert(&mut self, conversion: Conversion) -> Result<Turn, Refusal> {
+        self.reduce_whole(conversion.rule)?;
+        match self.frames.pop() {
+            Some(frame) => self.follow_variable(frame, conversion.to),
+            None => Ok(Turn::Finish),
         }
     }
 
@@ -136,11 +145,11 @@ impl<'a> Walk<'a> {
         }
     }
 
-    fn last_conversion(&self, typecode: Symbol) -> Option<RuleNo> {
-        let mut conversions = self.grammar.rules.conversions().iter();
+    fn last_conversion(&self, typecode: Symbol) -> Option<Conversion> {
+        let conversions = self.grammar.rules.conversions().iter();
         conversions
+            .copied()
             .find(|conversion| conversion.from == typecode && self.wants(conversion.to))
-            .map(|conversion| conversion.rule)
     }
 
     /// Serves a popped frame, which has the edge, and the root step, which may find none.

@@ -110,7 +110,9 @@ fn most_tokens() {
 #[test]
 fn set_t() {
     let desk = Desk::grown(T);
-    assert_eq!(desk.refusal(&[1, 31, 30]), (4, 0, 4));
+    let (answer, list) = desk.parse(&[1, 31, 30]);
+    assert_eq!((answer.number, answer.place, answer.passes), (0, 0, 5));
+    assert_eq!(list, [1, 2, 3, 4]);
     assert_eq!(desk.verify(&[1, 31, 30], &[1, 2, 3, 4]), 0);
 }
 

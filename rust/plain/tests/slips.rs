@@ -37,9 +37,10 @@ fn empty_body_is_refused() {
 }
 
 #[test]
-fn finish_with_frames_left_is_no_formula() {
+fn no_finish_with_frames_left() {
+    // The frame takes the converted tree, and its rule still wants a token.
     let desk = Desk::grown("2 c31 s3 c32; 4 c30; 5 s4; 3 s5");
-    assert_eq!(desk.refusal(&[1, 31, 30]), (4, 0, 4));
+    assert_eq!(desk.refusal(&[1, 31, 30]), (3, 2, 5));
 }
 
 #[test]

@@ -113,6 +113,7 @@ pub fn grow_set(seed: u64, number: u64) -> (Set, Random) {
         3 => float_twice(&mut seed),
         4..=6 => wild_set(&mut seed),
         7 => big_set(&mut seed),
+        8..=17 => ending_set(&mut seed),
         _ => ordinary_set(&mut seed),
     };
     (set, seed)
@@ -253,6 +254,49 @@ fn chain_set(seed: &mut Random) -> Set {
         }
     }
     set_of(&palette, rules, seed)
+}
+
+/// Rules that end in a slot which only several conversions lead to, mostly the first link first, so that one edge doesn't take them all: where
+/// a statement ends, its last tree has to be converted while frames are left.
+fn ending_set(seed: &mut Random) -> Set {
+    let links = seed.between(2..=4);
+    let palette = palette(seed, links + 3, 6);
+    let chain = &palette.typecodes[2..];
+    let mut rules: Vec<Rule> = chain.windows(2).map(|t| rule_of(t[1], vec![Slot(t[0])])).collect();
+    if seed.chance(20) {
+        rules.push(any_conversion(seed, &palette));
+    }
+    if seed.chance(40) {
+        seed.shuffle(&mut rules);
+    }
+    rules.push(rule_of(chain[0], vec![Constant(palette.constants[0])]));
+    for _ in 0..seed.between(1..=5) {
+        let more = ending_rule(seed, &palette);
+        if !rules.iter().any(|earlier| collide(&earlier.body, &more.body)) {
+            rules.push(more);
+        }
+    }
+    set_of(&palette, rules, seed)
+}
+
+/// A constant or two, mostly a slot of the chain behind them, and seldom something more.
+fn ending_rule(seed: &mut Random, palette: &Palette) -> Rule {
+    let mut body = vec![Constant(seed.pick(&palette.constants[1..]))];
+    if seed.chance(30) {
+        body.push(slot_of(seed, palette));
+    }
+    if seed.chance(90) {
+        body.push(Slot(seed.pick(&palette.typecodes[3..])));
+    }
+    if seed.chance(25) {
+        body.push(Constant(seed.pick(&palette.constants)));
+    }
+    let result = if seed.chance(40) {
+        1
+    } else {
+        seed.between(1..=palette.typecodes.len() - 1)
+    };
+    rule_of(palette.typecodes[result], body)
 }
 
 /// A set that breaks one number of the rule table.

@@ -1,10 +1,11 @@
-//! Holds the library's answers against those of the published Rust.
+//! Holds the answers of the library, or of the papers in ordinary Rust, against those of the published Rust.
 
-use crate::grown::{collide, Set};
+use crate::grown::{collide, Item, Set};
 use crate::oracle::{Answers, Asked, Build, Edge, Node, Parse, Said, Tree};
+use crate::sides::Side;
 use crate::tables;
 use jiehkavon::limits::{MOST_EDGES, MOST_NODES, MOST_RULES, MOST_TOKENS, ROW_WIDTH};
-use jiehkavon::words::{self, Answer};
+use jiehkavon::words::Answer;
 use std::collections::{BTreeMap, HashSet};
 
 /// What stands in every lent word before a call, so that a word that isn't written shows.
@@ -65,7 +66,7 @@ impl Tally {
     }
 }
 
-/// The tree that the library builds, or its refusal.
+/// The tree that is built here, or the refusal.
 struct Grown {
     number: u32,
     nodes: Vec<u32>,
@@ -82,11 +83,11 @@ fn room(set: &Set) -> (usize, usize) {
     (nodes.min(MOST_NODES), (nodes * keys).min(MOST_EDGES))
 }
 
-fn grow(set: &Set, rules: &[u32]) -> Grown {
+fn grow(side: &Side, set: &Set, rules: &[u32]) -> Grown {
     let (nodes, edges) = room(set);
     let mut nodes = vec![STALE; nodes];
     let mut edges = vec![STALE; edges * ROW_WIDTH];
-    let built = words::build(set.provable, set.logic, rules, &mut nodes, &mut edges);
+    let built = (side.build)(set.provable, set.logic, rules, &mut nodes, &mut edges);
     let (past_nodes, past_edges) = (built.nodes as usize, built.edges as usize * ROW_WIDTH);
     let rest = nodes.iter().skip(past_nodes).chain(edges.iter().skip(past_edges));
     let clean = rest.copied().all(|word| word == 0) && (built.number == 0 || (built.nodes, built.edges) == (0, 0));
@@ -99,7 +100,7 @@ fn grow(set: &Set, rules: &[u32]) -> Grown {
     }
 }
 
-/// The library's tables as the Rust's tree would be told.
+/// The tables as the Rust's tree would be told.
 fn tree_of(set: &Set, grown: &Grown) -> Option<Tree> {
     let node = |&word: &u32| match word.checked_sub(1) {
         None => Some(Node::Branch),
@@ -194,56 +195,103 @@ fn judge_build(set: &Set, number: u32, theirs: &Build) -> (Verdict, String) {
     (verdict, format!("build: {number}{why} / {kind}"))
 }
 
-/// A parse with the room that is always enough.
+/// A parse and all that it gave back.
 struct Walked {
     answer: Answer,
     list: Vec<u32>,
     clean: bool,
 }
 
-fn walk(set: &Set, rules: &[u32], grown: &Grown, tokens: &[u32]) -> Walked {
-    let after = tokens.len().saturating_sub(1);
-    let mut frames = vec![STALE; after];
-    let mut list = vec![STALE; 17 * after];
-    let mut work = vec![STALE; 17 * after];
-    let answer = words::parse(
-        set.provable,
-        set.logic,
-        rules,
-        &grown.nodes,
-        &grown.edges,
-        tokens,
-        4 * after as u32,
-        &mut frames,
-        &mut list,
-        &mut work,
-    );
-    let length = answer.length as usize;
-    let clean = list.iter().skip(length).chain(&frames).chain(&work).all(|&word| word == 0);
-    list.truncate(length);
-    Walked { answer, list, clean }
+/// Room that is always enough for so many tokens after the typecode: passes, frames, list entries.
+fn enough(after: usize) -> (u32, usize, usize) {
+    (4 * after as u32, after.saturating_sub(1), 18 * after)
 }
 
-/// Whether the check alone says of a list what the Rust's comparison and its typecodes say.
-fn check_agrees(set: &Set, rules: &[u32], tokens: &[u32], list: &[u32], yes: bool) -> bool {
-    let mut work = vec![STALE; list.len()];
-    let answer = words::verify(set.provable, set.logic, rules, tokens, list, &mut work);
-    let number = match yes {
-        _ if tokens.len() > MOST_TOKENS => 9,
-        true => 0,
-        false => 4,
-    };
-    answer
-        == (Answer {
+/// A set with its tree here, to put statements to.
+struct Desk<'a> {
+    side: &'a Side,
+    set: &'a Set,
+    rules: &'a [u32],
+    grown: &'a Grown,
+}
+
+impl Desk<'_> {
+    fn walk(&self, tokens: &[u32]) -> Walked {
+        self.walk_over(self.rules, tokens)
+    }
+
+    fn walk_over(&self, rules: &[u32], tokens: &[u32]) -> Walked {
+        let (allowance, frames, entries) = enough(tokens.len().saturating_sub(1));
+        let mut frames = vec![STALE; frames];
+        let mut list = vec![STALE; entries];
+        let mut work = vec![STALE; entries];
+        let answer = (self.side.parse)(
+            self.set.provable,
+            self.set.logic,
+            rules,
+            &self.grown.nodes,
+            &self.grown.edges,
+            tokens,
+            allowance,
+            &mut frames,
+            &mut list,
+            &mut work,
+        );
+        let length = answer.length as usize;
+        let clean = list.iter().skip(length).chain(&frames).chain(&work).all(|&word| word == 0);
+        list.truncate(length);
+        Walked { answer, list, clean }
+    }
+
+    /// Whether the check alone says yes, or no.
+    fn check_says(&self, tokens: &[u32], list: &[u32], yes: bool) -> bool {
+        let mut work = vec![STALE; list.len()];
+        let answer = (self.side.verify)(self.set.provable, self.set.logic, self.rules, tokens, list, &mut work);
+        let number = match yes {
+            _ if tokens.len() > MOST_TOKENS => 9,
+            true => 0,
+            false => 4,
+        };
+        let whole = Answer {
             number,
             place: 0,
             length: 0,
             passes: 0,
-        })
-        && work.iter().all(|&word| word == 0)
+        };
+        answer == whole && work.iter().all(|&word| word == 0)
+    }
+
+    /// Whether the walk goes on where the Rust ended it: by a conversion after the last token, while frames were left. What the Rust then
+    /// has is no formula of the statement, or not one tree.
+    fn goes_on(&self, ours: &Walked, theirs: &Parse, tokens: &[u32]) -> bool {
+        let by_conversion = match &theirs.said {
+            Said::Ok { list, same, typed, .. } => !(*same && *typed) && list.last().is_some_and(|&rule| self.converts(rule)),
+            Said::Panic(_) => theirs.kind() == "panic several roots",
+            _ => false,
+        };
+        by_conversion && ours.answer.passes > theirs.passes && self.first_ending(tokens) == Some(theirs.passes)
+    }
+
+    /// The pass in which a conversion first ends a statement. Over the same tables, but with a constant behind every conversion so that it
+    /// is none, the walk makes a root step there; that is refused in the same pass, or leads to a branch where the tokens have ended.
+    fn first_ending(&self, tokens: &[u32]) -> Option<u32> {
+        let mut set = self.set.clone();
+        let conversions = set.rules.iter_mut().filter(|rule| rule.converts().is_some());
+        conversions.for_each(|rule| rule.body.push(Item::Constant(self.set.logic)));
+        let Answer { number, passes, .. } = self.walk_over(&set.words(), tokens).answer;
+        match number {
+            2 | 4 => Some(passes),
+            3 => Some(passes - 1),
+            _ => None,
+        }
+    }
+
+    fn converts(&self, rule: u32) -> bool {
+        self.set.rules[rule as usize - 1].converts().is_some()
+    }
 }
 
-/// Whether the library's answer is the one that goes with the Rust's.
+/// Whether the answer here is the one that goes with the Rust's, where both walks end in the same pass.
 fn judge_parse(ours: &Walked, theirs: &Parse, tokens: &[u32]) -> Verdict {
     let Answer {
         number,
@@ -269,8 +317,9 @@ fn judge_parse(ours: &Walked, theirs: &Parse, tokens: &[u32]) -> Verdict {
             typed: true,
             ..
         } if (number, place) == (0, 0) && ours.list == *list => Verdict::Same,
-        Said::Ok { same, typed, .. } if (number, place) == (4, 0) && refused && !(*same && *typed) => Verdict::Listed,
-        Said::Panic(_) if (number, place) == (4, 0) && refused && theirs.kind() != "panic other" => Verdict::Listed,
+        Said::Ok {
+            same: true, typed: false, ..
+        } if (number, place) == (4, 0) && refused => Verdict::Listed,
         Said::TooFew if (number, place) == (1, 0) && refused => Verdict::Same,
         Said::Unparseable(at) if (number, place) == (2, *at) && refused => Verdict::Same,
         Said::TooShort(at) if (number, place) == (3, *at) && refused => Verdict::Same,
@@ -279,10 +328,10 @@ fn judge_parse(ours: &Walked, theirs: &Parse, tokens: &[u32]) -> Verdict {
 }
 
 /// Everything of one set: the build, the tree, and each statement.
-pub fn hold(name: &str, asked: &Asked, theirs: &Answers, tally: &mut Tally) {
+pub fn hold(side: &Side, name: &str, asked: &Asked, theirs: &Answers, tally: &mut Tally) {
     let set = &asked.set;
     let rules = set.words();
-    let grown = grow(set, &rules);
+    let grown = grow(side, set, &rules);
     tally.add("sets", 1);
     let (mut verdict, mut pair) = judge_build(set, grown.number, &theirs.build);
     if !grown.clean {
@@ -298,8 +347,14 @@ pub fn hold(name: &str, asked: &Asked, theirs: &Answers, tally: &mut Tally) {
         tally.add("statements not compared, for want of two trees", asked.statements.len());
         return;
     }
+    let desk = Desk {
+        side,
+        set,
+        rules: &rules,
+        grown: &grown,
+    };
     for (tokens, parse) in asked.statements.iter().zip(&theirs.parses) {
-        hold_statement(name, set, &rules, &grown, tokens, parse, tally);
+        hold_statement(name, &desk, tokens, parse, tally);
     }
 }
 
@@ -339,36 +394,59 @@ fn copied(set: &Set, edges: &[Edge]) -> bool {
     })
 }
 
-fn hold_statement(name: &str, set: &Set, rules: &[u32], grown: &Grown, tokens: &[u32], theirs: &Parse, tally: &mut Tally) {
-    let ours = walk(set, rules, grown, tokens);
-    let mut verdict = judge_parse(&ours, theirs, tokens);
-    let mut pair = format!("parse: {} / {}", ours.answer.number, theirs.kind());
+fn hold_statement(name: &str, desk: &Desk, tokens: &[u32], theirs: &Parse, tally: &mut Tally) {
+    let ours = desk.walk(tokens);
+    let goes_on = desk.goes_on(&ours, theirs, tokens);
+    let mut verdict = if goes_on {
+        Verdict::Listed
+    } else {
+        judge_parse(&ours, theirs, tokens)
+    };
+    let after = if goes_on { " later" } else { "" };
+    let mut pair = format!("parse: {}{after} / {}", ours.answer.number, theirs.kind());
     if !ours.clean {
         (verdict, pair) = (Verdict::Found, format!("{pair}: words left"));
     }
-    if let Said::Ok { list, same, typed, .. } = &theirs.said {
-        tally.add("lists of the Rust put to the check", 1);
-        if !check_agrees(set, rules, tokens, list, *same && *typed) {
-            (verdict, pair) = (Verdict::Found, format!("{pair}: the check"));
-        }
+    if !checks_agree(desk, &ours, theirs, tokens, tally) {
+        (verdict, pair) = (Verdict::Found, format!("{pair}: the check"));
     }
     tally.add("statements", 1);
     tally.add("statements of more than 100 tokens", usize::from(tokens.len() > 100));
     if verdict != Verdict::Found && ours.answer.number != 9 {
-        tally.add("passes equal", 1);
-        tally.add("passes equal, in all", theirs.passes as usize);
-        tally.add("lists equal", usize::from(ours.answer.number == 0));
-        tally.add("list entries equal", ours.list.len());
-        tally.add("places equal", usize::from(ours.answer.place != 0));
-        tally.add("lists with a conversion", usize::from(converts(set, &ours.list)));
+        add_equal(desk, &ours, theirs, goes_on, tally);
     }
-    tally.note(verdict, pair, size(set, tokens), || {
-        told(name, set, Some(tokens), &format!("{:?} {:?}; {theirs:?}", ours.answer, ours.list))
+    tally.note(verdict, pair, size(desk.set, tokens), || {
+        told(
+            name,
+            desk.set,
+            Some(tokens),
+            &format!("{:?} {:?}; {theirs:?}", ours.answer, ours.list),
+        )
     });
 }
 
-fn converts(set: &Set, list: &[u32]) -> bool {
-    list.iter().any(|&rule| set.rules[rule as usize - 1].converts().is_some())
+/// The check alone has to say of each list what it is: of the Rust's, whether it spells the statement and is well typed; yes of our own.
+fn checks_agree(desk: &Desk, ours: &Walked, theirs: &Parse, tokens: &[u32], tally: &mut Tally) -> bool {
+    let mut agree = ours.answer.number != 0 || desk.check_says(tokens, &ours.list, true);
+    if let Said::Ok { list, same, typed, .. } = &theirs.said {
+        tally.add("lists of the Rust put to the check", 1);
+        agree &= desk.check_says(tokens, list, *same && *typed);
+    }
+    agree
+}
+
+fn add_equal(desk: &Desk, ours: &Walked, theirs: &Parse, goes_on: bool, tally: &mut Tally) {
+    let convert = ours.list.iter().any(|&rule| desk.converts(rule));
+    tally.add("lists with a conversion", usize::from(convert));
+    if goes_on {
+        tally.add("walks that go on with frames left", 1);
+        return;
+    }
+    tally.add("passes equal", 1);
+    tally.add("passes equal, in all", theirs.passes as usize);
+    tally.add("lists equal", usize::from(ours.answer.number == 0));
+    tally.add("list entries equal", ours.list.len());
+    tally.add("places equal", usize::from(ours.answer.place != 0));
 }
 
 /// How much there is to read in a set and a statement.

@@ -5,6 +5,7 @@ pub mod inputs;
 pub mod metamath;
 pub mod oracle;
 pub mod random;
+pub mod sides;
 pub mod tables;
 pub mod timing;
 pub mod vectors;

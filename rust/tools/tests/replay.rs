@@ -2,6 +2,7 @@
 
 use tools::held::{hold, Tally, Verdict};
 use tools::oracle::{Answers, Asked, Build};
+use tools::sides::{Side, LIBRARY, PLAIN};
 use tools::vectors;
 
 const FILES: [(&str, &str); 2] = [
@@ -10,7 +11,7 @@ const FILES: [(&str, &str); 2] = [
 ];
 
 /// Each has to come up in one of the files, or the files no longer show what they are kept for.
-const PAIRS: [(Verdict, &str); 22] = [
+const PAIRS: [(Verdict, &str); 27] = [
     (Verdict::Same, "build: 0 / built"),
     (Verdict::Same, "build: 11 / diag ambiguous"),
     (Verdict::Same, "build: 14 / panic sixth reduce"),
@@ -28,25 +29,30 @@ const PAIRS: [(Verdict, &str); 22] = [
     (Verdict::Listed, "build: 10 (symbol out of range) / built"),
     (Verdict::Listed, "build: 11 (variables) / built"),
     (Verdict::Listed, "build: 11 / panic same node"),
-    (Verdict::Listed, "parse: 4 / ok differs typed"),
-    (Verdict::Listed, "parse: 4 / ok differs typed-as"),
+    (Verdict::Listed, "parse: 0 later / ok differs typed"),
+    (Verdict::Listed, "parse: 0 later / ok differs typed-as"),
+    (Verdict::Listed, "parse: 0 later / panic several roots"),
+    (Verdict::Listed, "parse: 2 later / ok differs typed-as"),
+    (Verdict::Listed, "parse: 2 later / panic several roots"),
+    (Verdict::Listed, "parse: 3 later / ok differs typed"),
+    (Verdict::Listed, "parse: 3 later / ok differs typed-as"),
+    (Verdict::Listed, "parse: 3 later / panic several roots"),
     (Verdict::Listed, "parse: 4 / ok same illtyped"),
-    (Verdict::Listed, "parse: 4 / panic several roots"),
     (Verdict::Listed, "parse: 9 / ok same typed"),
 ];
 
 fn held(asked: &Asked, answers: &Answers) -> Tally {
     let mut tally = Tally::default();
-    hold("stored", asked, answers, &mut tally);
+    hold(&PLAIN, "stored", asked, answers, &mut tally);
     tally
 }
 
 /// Both files together.
-fn replayed() -> Tally {
+fn replayed(side: &Side) -> Tally {
     let mut tally = Tally::default();
     for (name, text) in FILES {
         for (asked, answers) in vectors::read(text).unwrap_or_else(|why| panic!("{name}: {why}")) {
-            hold(name, &asked, &answers, &mut tally);
+            hold(side, name, &asked, &answers, &mut tally);
         }
     }
     tally
@@ -96,7 +102,16 @@ fn builds_in_both(set: &[&str]) -> bool {
 
 #[test]
 fn the_library_says_what_is_stored() {
-    let tally = replayed();
+    says_what_is_stored(&LIBRARY);
+}
+
+#[test]
+fn the_papers_in_ordinary_rust_say_what_is_stored() {
+    says_what_is_stored(&PLAIN);
+}
+
+fn says_what_is_stored(side: &Side) {
+    let tally = replayed(side);
     for ((verdict, pair), seen) in &tally.pairs {
         assert_ne!(*verdict, Verdict::Found, "{pair}: {:?}", seen.inputs);
     }
@@ -113,7 +128,7 @@ fn the_library_says_what_is_stored() {
 
 #[test]
 fn every_pair_of_answers_is_stored() {
-    let tally = replayed();
+    let tally = replayed(&PLAIN);
     for (verdict, pair) in PAIRS {
         assert!(tally.pairs.contains_key(&(verdict, pair.to_string())), "missing: {pair}");
     }

@@ -1,4 +1,4 @@
-//! Compares the library with the published Rust. See docs/COMPARISON.md.
+//! Compares the library, or the papers in ordinary Rust, with the published Rust. See docs/COMPARISON.md.
 
 use std::collections::BTreeMap;
 use std::io::{self, BufWriter, Read, Write};
@@ -6,10 +6,10 @@ use std::process::ExitCode;
 use tools::grown::{grow_set, Sentences};
 use tools::held::{hold, Tally, Verdict};
 use tools::oracle::{Answers, Asked};
-use tools::vectors;
+use tools::{sides, vectors};
 
 const USE: &str = "judge make SEED SETS STATEMENTS        writes the questions
-judge hold SEED SETS STATEMENTS        reads the Rust's answers to them and compares; 1 if anything is found
+judge hold SIDE SEED SETS STATEMENTS   reads the Rust's answers to them and compares; 1 if anything is found. SIDE is library or plain
 judge sum                              reads what several `hold` wrote and adds it up; 1 if anything was found
 judge pick SEED SETS STATEMENTS MOST   reads the answers as `hold` does and writes the questions of some sets, each pair of answers among them
 judge bind FILE                        reads the Rust's answers to a file of questions and writes both as a file of vectors";
@@ -19,7 +19,7 @@ fn main() -> ExitCode {
     let words: Vec<&str> = words.iter().map(String::as_str).collect();
     let result = match words[..] {
         ["make", seed, sets, statements] => numbers([seed, sets, statements]).and_then(make),
-        ["hold", seed, sets, statements] => numbers([seed, sets, statements]).and_then(hold_all),
+        ["hold", side, seed, sets, statements] => numbers([seed, sets, statements]).and_then(|numbers| hold_all(side, numbers)),
         ["sum"] => sum(),
         ["pick", seed, sets, statements, most] => numbers([seed, sets, statements, most]).and_then(pick),
         ["bind", file] => bind(file),
@@ -93,9 +93,10 @@ fn with_answers([seed, sets, statements]: [u64; 3], mut each: impl FnMut(&str, &
     }
 }
 
-fn hold_all(numbers: [u64; 3]) -> Result<u64, String> {
+fn hold_all(side: &str, numbers: [u64; 3]) -> Result<u64, String> {
+    let side = sides::named(side).ok_or_else(|| format!("no side: {side}"))?;
     let mut tally = Tally::default();
-    with_answers(numbers, |name, asked, answers| hold(name, asked, answers, &mut tally))?;
+    with_answers(numbers, |name, asked, answers| hold(side, name, asked, answers, &mut tally))?;
     Ok(tell(&tally))
 }
 
@@ -108,7 +109,7 @@ fn pick([seed, sets, statements, most]: [u64; 4]) -> Result<u64, String> {
             return;
         }
         let mut tally = Tally::default();
-        hold(name, asked, answers, &mut tally);
+        hold(&sides::PLAIN, name, asked, answers, &mut tally);
         let built = tally.compared.contains_key("trees equal");
         let enough = |pair: &(Verdict, String)| if built && pair.1.starts_with("build") { 10 * most } else { most };
         let pairs: Vec<_> = tally.pairs.into_keys().collect();
