@@ -18,7 +18,7 @@ pub mod words;
 pub use check::check;
 pub use grammar::Grammar;
 pub use grow::{grow, Room, Tree};
-pub use numbers::{NodeNo, Refusal, RuleNo, Symbol};
+pub use numbers::{NodeNo, Refusal, RuleNo, Symbol, TOKEN_LIMIT};
 pub use package::{counted, Contents};
 pub use rows::{Edge, Node, Reduce, Row, Tables};
 pub use rules::{Item, Rule, Rules, Typecodes};

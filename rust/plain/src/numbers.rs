@@ -7,7 +7,8 @@ pub const NODE_LIMIT: usize = 8_192;
 pub const EDGE_LIMIT: usize = 16_384;
 pub const REDUCE_LIMIT: usize = 5;
 pub const OFFSET_LIMIT: u32 = 255;
-pub const TOKEN_LIMIT: usize = 4_097;
+/// The typecode is counted.
+pub const TOKEN_LIMIT: usize = 32_769;
 
 /// A constant or a typecode, within the range that tables allow.
 #[derive(Clone, Copy, Debug, PartialEq, Eq, Hash)]

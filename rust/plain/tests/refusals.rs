@@ -157,7 +157,7 @@ fn first_of_two_rows_counts() {
 #[test]
 fn order_of_refusals() {
     let mut desk = Desk::grown(S);
-    let many = vec![1; 4_098];
+    let many = vec![1; 32_770];
     desk.edges.pop();
     assert_eq!([desk.number(&[]), desk.number(&many)], [8, 8]);
     desk.rules.pop();

@@ -100,11 +100,53 @@ fn nested(tokens: usize) -> Vec<u32> {
 #[test]
 fn most_tokens() {
     let desk = Desk::grown(S);
-    let (answer, list) = desk.parse(&nested(4_097));
-    assert_eq!((answer.number, answer.length), (0, 4_096));
-    assert_eq!(desk.verify(&nested(4_097), &list), 0);
-    assert_eq!(desk.refusal(&nested(4_098)), (9, 0, 0));
-    assert_eq!(desk.verify(&nested(4_098), &list), 9);
+    let (answer, list) = desk.parse(&nested(32_769));
+    assert_eq!((answer.number, answer.length, answer.passes), (0, 32_768, 98_303));
+    assert_eq!(desk.verify(&nested(32_769), &list), 0);
+    assert_eq!(desk.refusal(&nested(32_770)), (9, 0, 0));
+    assert_eq!(desk.verify(&nested(32_770), &list), 9);
+}
+
+#[test]
+fn rooms_of_the_most_tokens() {
+    let ample = Desk::grown(S);
+    let exact = Desk {
+        allowance: 98_303,
+        frames: 32_767,
+        list: 32_768,
+        work: 32_768,
+        ..ample.clone()
+    };
+    let answers = [
+        exact.clone(),
+        Desk {
+            allowance: 98_302,
+            ..exact.clone()
+        },
+        Desk {
+            frames: 32_766,
+            ..exact.clone()
+        },
+        Desk {
+            list: 32_767,
+            ..exact.clone()
+        },
+        Desk { work: 32_767, ..exact },
+    ];
+    let numbers = answers.map(|desk| desk.number(&nested(32_769)));
+    assert_eq!(numbers, [0, 5, 6, 7, 7]);
+}
+
+/// Thousands of trees stand side by side before the end of the tokens joins them.
+#[test]
+fn most_tokens_of_a_flat_statement() {
+    let desk = Desk::grown("2 c10; 2 s2 s2");
+    let flat = |tokens: usize| [vec![2], vec![10; tokens - 1]].concat();
+    let (answer, list) = desk.parse(&flat(32_769));
+    assert_eq!((answer.number, answer.passes, answer.length), (0, 131_070, 65_535));
+    assert_eq!(desk.verify(&flat(32_769), &list), 0);
+    assert_eq!(desk.refusal(&flat(32_770)), (9, 0, 0));
+    assert_eq!(desk.verify(&flat(32_770), &list), 9);
 }
 
 #[test]

@@ -4,8 +4,9 @@ use crate::grown::{collide, Item, Set};
 use crate::oracle::{Answers, Asked, Build, Edge, Node, Parse, Said, Tree};
 use crate::sides::Side;
 use crate::tables;
-use jiehkavon::limits::{MOST_EDGES, MOST_NODES, MOST_RULES, MOST_TOKENS, ROW_WIDTH};
+use jiehkavon::limits::{MOST_EDGES, MOST_NODES, MOST_RULES, ROW_WIDTH};
 use jiehkavon::words::Answer;
+use plain::TOKEN_LIMIT;
 use std::collections::{BTreeMap, HashSet};
 
 /// What stands in every lent word before a call, so that a word that isn't written shows.
@@ -248,7 +249,7 @@ impl Desk<'_> {
         let mut work = vec![STALE; list.len()];
         let answer = (self.side.verify)(self.set.provable, self.set.logic, self.rules, tokens, list, &mut work);
         let number = match yes {
-            _ if tokens.len() > MOST_TOKENS => 9,
+            _ if tokens.len() > TOKEN_LIMIT => 9,
             true => 0,
             false => 4,
         };
@@ -300,7 +301,7 @@ fn judge_parse(ours: &Walked, theirs: &Parse, tokens: &[u32]) -> Verdict {
         passes,
     } = ours.answer;
     let refused = number != 0 && length == 0;
-    if tokens.len() > MOST_TOKENS {
+    if tokens.len() > TOKEN_LIMIT {
         return if (number, place, length, passes) == (9, 0, 0, 0) {
             Verdict::Listed
         } else {

@@ -74,8 +74,8 @@ impl Desk {
             rules,
             nodes,
             edges,
-            allowance: 100_000,
-            frames: 5_000,
+            allowance: 200_000,
+            frames: 33_000,
             list: 100_000,
             work: 100_000,
         }

@@ -132,7 +132,7 @@ fn tables_at_their_limits_are_walked() {
 
 #[test]
 fn longest_statements_are_walked() {
-    for (count, numbers) in [(4_097, [0, 0, 2]), (4_098, [9, 9, 9])] {
+    for (count, numbers) in [(32_769, [0, 0, 2]), (32_770, [9, 9, 9])] {
         let (set, statements) = limits::many_tokens(count);
         let grammar = built(&set).expect("the set builds");
         let answers: Vec<u32> = statements.iter().map(|tokens| number(&grammar, tokens)).collect();

@@ -1,5 +1,6 @@
 //! What is compared, round by round.
 
+use plain::TOKEN_LIMIT;
 use tools::inputs::damage::{damage, field, mangle, word, words};
 use tools::inputs::rules::{rule_fault, rule_set, RuleSet};
 use tools::inputs::samples::edited_sample;
@@ -300,7 +301,7 @@ impl Comparison {
 
     /// The most tokens, and one more, over small tables.
     fn many_tokens_round(&mut self) -> Compared {
-        let count = self.random.pick(&[4_097, 4_098, 5_000]);
+        let count = self.random.pick(&[TOKEN_LIMIT, TOKEN_LIMIT + 1, 40_000]);
         let (set, statements) = limits::many_tokens(count);
         let grammar = built(&set).expect("the set builds");
         let tokens = &statements[self.random.below(statements.len())];
@@ -335,7 +336,7 @@ impl Comparison {
 
     /// The rooms of the longest statements, each one short.
     fn most_tokens(&mut self) -> Compared {
-        let (set, statements) = limits::many_tokens(4_097);
+        let (set, statements) = limits::many_tokens(TOKEN_LIMIT);
         let grammar = built(&set).expect("the set builds");
         let tokens = &statements[self.random.below(2)];
         self.parses(&grammar, tokens).map(drop)
