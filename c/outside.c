@@ -196,14 +196,14 @@ static void check_random(const grounds *g) {
 
 /* The longest statement in the room that is always enough, and in the least; then one token more. */
 static void check_long(const grounds *g) {
-    const size_t rooms[][2] = {{LONG_LIST, 4095}, {4096, 4095}, {4095, 4095}, {4096, 4094}};
+    const size_t rooms[][2] = {{LONG_LIST, LONGEST}, {LONGEST + 1, LONGEST}, {LONGEST, LONGEST}, {LONGEST + 1, LONGEST - 1}};
     for (size_t i = 0; i < LENGTH(rooms); i++) {
         call c = call_s(PARSE, JIEHKAVON_MOST_PASSES);
         c.slices[LIST] = c.slices[WORK] = garbage(rooms[i][0]);
         c.slices[FRAMES] = garbage(rooms[i][1]);
-        c.slices[TOKENS] = prefixes(4095);
+        c.slices[TOKENS] = prefixes(LONGEST);
         check_on(g, &c);
-        c.slices[TOKENS] = prefixes(4096);
+        c.slices[TOKENS] = prefixes(LONGEST + 1);
         check_on(g, &c);
     }
 }

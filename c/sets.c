@@ -76,7 +76,7 @@ slice garbage(size_t length) {
 }
 
 slice prefixes(size_t count) {
-    static uint32_t words[4098];
+    static uint32_t words[LONGEST + 3];
     words[0] = PROVABLE;
     for (size_t i = 1; i <= count; i++)
         words[i] = 14;

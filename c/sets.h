@@ -24,10 +24,11 @@ extern const slice rules_one, nodes_one, edges_one, tokens_one, list_one;
 call call_s(int entry, uint32_t number);
 
 /* Slices lent for writing hold this before a call: so many words that are no zeros. */
-enum { MOST_GARBAGE = 70000 };
+enum { MOST_GARBAGE = JIEHKAVON_MOST_LIST };
 slice garbage(size_t length);
 
-/* The provable typecode, `count` times c14 of set S, and c10, for at most 4,096 of them. */
+/* The provable typecode, `count` times c14 of set S, and c10. The longest statement has LONGEST of c14, and one more makes it too long. */
+enum { LONGEST = JIEHKAVON_MOST_TOKENS - 2 };
 slice prefixes(size_t count);
 
 #endif

@@ -175,9 +175,9 @@ static void check_refused_parses(void) {
     c.slices[EDGES] = edges_s;
     e.given.words[0] = JIEHKAVON_TOO_SHORT;
     check_call(&c, &e, "parse of no tokens");
-    c.slices[TOKENS] = prefixes(4096);
+    c.slices[TOKENS] = prefixes(LONGEST + 1);
     e.given.words[0] = JIEHKAVON_TOO_LONG;
-    check_call(&c, &e, "parse of 4,098 tokens");
+    check_call(&c, &e, "parse of one token too many");
 }
 
 /* A row of zeros after the edges is no edge; a node of zero after the nodes is a branch. */
@@ -197,22 +197,22 @@ static void check_uncut_tables(void) {
 }
 
 static void check_longest(void) {
-    static uint32_t list[4096];
-    call c = call_s(PARSE, 4 * 4096);
-    expected e = {.given = {{JIEHKAVON_OK, 0, 4096, 12287}}};
-    c.slices[TOKENS] = prefixes(4095);
+    static uint32_t list[LONGEST + 1];
+    call c = call_s(PARSE, JIEHKAVON_MOST_PASSES);
+    expected e = {.given = {{JIEHKAVON_OK, 0, LENGTH(list), 3 * LENGTH(list) - 1}}};
+    c.slices[TOKENS] = prefixes(LONGEST);
     check(c.slices[TOKENS].length == JIEHKAVON_MOST_TOKENS, "the longest statement has %zu tokens", c.slices[TOKENS].length);
     c.slices[FRAMES] = garbage(JIEHKAVON_MOST_FRAMES);
     c.slices[LIST] = c.slices[WORK] = garbage(JIEHKAVON_MOST_LIST);
     for (size_t i = 0; i < LENGTH(list); i++)
         list[i] = i == 0 ? 1 : 6;
     e.front[LIST] = SLICE(list);
-    check_call(&c, &e, "parse of 4,097 tokens");
+    check_call(&c, &e, "parse of the longest statement");
     c.entry = VERIFY;
     c.slices[LIST] = SLICE(list);
     c.slices[WORK] = garbage(LENGTH(list));
     e = (expected){.given = {{JIEHKAVON_OK, 0, 0, 0}}};
-    check_call(&c, &e, "check of 4,097 tokens");
+    check_call(&c, &e, "check of the longest statement");
 }
 
 static void check_verifies(void) {

@@ -55,7 +55,7 @@ enum {
     JIEHKAVON_MOST_EDGES = 16384,
     JIEHKAVON_MOST_REDUCES = 5,    /* of an edge */
     JIEHKAVON_MOST_OFFSET = 255,   /* of a reduce */
-    JIEHKAVON_MOST_TOKENS = 4097   /* of a statement, its typecode among them */
+    JIEHKAVON_MOST_TOKENS = 32769  /* of a statement, its typecode among them */
 };
 
 /* Sizes. */
@@ -63,11 +63,11 @@ enum {
     JIEHKAVON_ITEM_WIDTH = 2,      /* words of an item */
     JIEHKAVON_ROW_WIDTH = 16,      /* words of an edge: from, kind, symbol, to, count, five times rule and offset, 0 */
     JIEHKAVON_PASSES_A_TOKEN = 4,  /* passes for each token after the typecode that are always enough */
-    JIEHKAVON_LIST_A_TOKEN = 17    /* words of the list, and of its work slice, likewise */
+    JIEHKAVON_LIST_A_TOKEN = 18    /* words of the list, and of its work slice, likewise */
 };
 
 /* Passes and room that are always enough for a statement of `tokens` tokens, its typecode among them: for n tokens
- * after the typecode 4n passes, n - 1 frames, and 17n words for the list and 17n for its work slice. With these a
+ * after the typecode 4n passes, n - 1 frames, and 18n words for the list and 18n for its work slice. With these a
  * parse never answers 5, 6 or 7; that is proved, for any tables. Lending more changes nothing. A statement of no or
  * too many tokens is refused before it is walked and needs none. */
 static inline size_t jiehkavon_walked(size_t tokens) {

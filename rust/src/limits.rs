@@ -16,7 +16,7 @@ pub const MOST_EDGES: usize = 16_384;
 pub const MOST_REDUCES: usize = 5;
 
 /// The tokens of a statement, its typecode among them.
-pub const MOST_TOKENS: usize = 4_097;
+pub const MOST_TOKENS: usize = 32_769;
 
 /// The words of an item: its kind and its symbol.
 pub const ITEM_WIDTH: usize = 2;

@@ -30,4 +30,4 @@ mostOffset = 255
 
 -- the tokens of a statement, its typecode among them
 abbrev pub mostTokens : ℕ
-mostTokens = 4097
+mostTokens = 32769

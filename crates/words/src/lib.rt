@@ -22,7 +22,7 @@ pub const MOST_REDUCES: u32 = 5;
 
 pub const MOST_OFFSET: u32 = 255;
 // The tokens of a statement, its typecode among them.
-pub const MOST_TOKENS: usize = 4097;
+pub const MOST_TOKENS: usize = 32769;
 // The words of an edge.
 pub const ROW_WIDTH: usize = 16;
 

@@ -2,6 +2,7 @@
 
 mod entry;
 mod layout;
+mod long;
 mod package;
 mod refusals;
 mod room;

@@ -27,10 +27,10 @@ fn the_bounds_by_the_number_of_tokens() {
     let room = |allowance, frames, list| Room { allowance, frames, list };
     assert_eq!(Room::for_tokens(0), room(0, 0, 0));
     assert_eq!(Room::for_tokens(1), room(0, 0, 0));
-    assert_eq!(Room::for_tokens(2), room(4, 0, 17));
-    assert_eq!(Room::for_tokens(6), room(20, 4, 85));
-    assert_eq!(Room::for_tokens(4_097), room(16_384, 4_095, 69_632));
-    assert_eq!(Room::for_tokens(4_098), room(0, 0, 0));
+    assert_eq!(Room::for_tokens(2), room(4, 0, 18));
+    assert_eq!(Room::for_tokens(6), room(20, 4, 90));
+    assert_eq!(Room::for_tokens(32_769), room(131_072, 32_767, 589_824));
+    assert_eq!(Room::for_tokens(32_770), room(0, 0, 0));
     assert_eq!(Room::for_tokens(usize::MAX), room(0, 0, 0));
 }
 
@@ -73,7 +73,7 @@ fn random_statements_have_enough() {
 #[test]
 fn frames_are_tight() {
     let grammar = grammar(set_s());
-    for count in [1, 2, 5, 4_095] {
+    for count in [1, 2, 5, 32_767] {
         let tokens = prefixes(count);
         let room = Room::for_tokens(tokens.len());
         assert_eq!(room.frames, count);

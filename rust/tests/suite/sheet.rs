@@ -141,22 +141,23 @@ fn the_check_tells_lists_apart() {
 #[test]
 fn the_longest_statement_is_walked() {
     let grammar = grammar(set_s());
-    let longest = prefixes(4_095);
-    assert_eq!(longest.len(), 4_097);
+    let longest = prefixes(32_767);
+    assert_eq!(longest.len(), 32_769);
     let formula = grammar.parse(&statement(&longest)).expect("a formula");
-    assert_eq!(formula.words(), [vec![1], vec![6; 4_095]].concat());
+    assert_eq!(formula.words(), [vec![1], vec![6; 32_767]].concat());
     assert_eq!(grammar.verify(&statement(&longest), &formula), Ok(()));
-    let longer = statement(&prefixes(4_096));
+    let longer = statement(&prefixes(32_768));
     assert_eq!(grammar.parse(&longer), Err(ParseError::TooLong));
     assert_eq!(grammar.verify(&longer, &formula), Err(VerifyError::TooLong));
 }
 
 #[test]
-fn set_t_is_walked_past_its_tree() {
+fn set_t_is_converted_with_a_frame_left() {
     let grammar = grammar(set_t());
     let sentence = statement(&[1, 31, 30]);
-    assert_eq!(grammar.parse(&sentence), Err(ParseError::NotWellTyped { passes: 4 }));
-    assert_eq!(grammar.verify(&sentence, &Formula::from_words([1, 2, 3, 4])), Ok(()));
+    let formula = Formula::from_words([1, 2, 3, 4]);
+    assert_eq!(grammar.parse(&sentence), Ok(formula.clone()));
+    assert_eq!(grammar.verify(&sentence, &formula), Ok(()));
 }
 
 #[test]

@@ -42,7 +42,7 @@ fn tokens_of_each_part() {
 #[test]
 fn parsed_formulas_spell_their_statements() {
     let grammar = grammar(set_s());
-    let rows: [&[u32]; 4] = [&TEN_PASSES, &[1, 13, 8, 13], &[3, 13], &prefixes(4_095)];
+    let rows: [&[u32]; 4] = [&TEN_PASSES, &[1, 13, 8, 13], &[3, 13], &prefixes(32_767)];
     for tokens in rows {
         let formula = grammar.parse(&statement(tokens)).expect("a formula");
         let tree = formula.tree(grammar.rules()).expect("a tree");

@@ -106,7 +106,7 @@ first q number passes = meets ample number 0 [] passes (parseGives q 100 ample)
 
 orders : Bool
 orders = first (asked (7 ∷ []) [] (1 ∷ []) []) 10 0 && first (asked [] [] (1 ∷ []) []) 8 0 && first (asked [] (0 ∷ []) [] []) 1 0
-    && first (asked [] (0 ∷ []) [] (replicate 4098 1)) 9 0 && eqb (parseGives (asked [] (0 ∷ []) [] (replicate 4097 1)) 0 ample .number) 5
+    && first (asked [] (0 ∷ []) [] (replicate 32770 1)) 9 0 && eqb (parseGives (asked [] (0 ∷ []) [] (replicate 32769 1)) 0 ample .number) 5
 
 orders-hold : orders ≡ true
 unfolding orders first opening
@@ -114,7 +114,7 @@ orders-hold = refl
 
 -- 10, 1, 9, 7, 4
 verify-orders : (verifyGives 1 1 [] [] (1 ∷ []) 0 .number ≡ 10) × (verifyGives 1 2 [] [] (1 ∷ []) 0 .number ≡ 1)
-    × (verifyGives 1 2 [] (replicate 4098 1) (1 ∷ []) 0 .number ≡ 9) × (verifyGives 1 2 [] (1 ∷ 1 ∷ []) (1 ∷ []) 0 .number ≡ 7)
+    × (verifyGives 1 2 [] (replicate 32770 1) (1 ∷ []) 0 .number ≡ 9) × (verifyGives 1 2 [] (1 ∷ 1 ∷ []) (1 ∷ []) 0 .number ≡ 7)
     × (verifyGives 1 2 [] (1 ∷ 1 ∷ []) (1 ∷ []) 1 .number ≡ 4)
 unfolding opening
 verify-orders = (refl, refl, refl, refl, refl)
