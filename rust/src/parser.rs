@@ -9,7 +9,7 @@ use crate::words;
 
 /// Passes and room that are always enough for a statement.
 ///
-/// For n tokens after the typecode, and for any tables at all, no parse needs more than 4n passes, n - 1 frames and 17n list entries. These are
+/// For n tokens after the typecode, and for any tables at all, no parse needs more than 4n passes, n - 1 frames and 18n list entries. These are
 /// theorems about the library: `four-n`, `frames-enough` and `list-enough` in `crates/desk/specs/laws/Promises.antt`. By `more-room` there, lending
 /// more would change no answer.
 #[derive(Clone, Copy, Debug, PartialEq, Eq)]
@@ -29,7 +29,7 @@ impl Room {
         Room {
             allowance: u32::try_from(4 * after).unwrap_or(u32::MAX),
             frames: after.saturating_sub(1),
-            list: 17 * after,
+            list: 18 * after,
         }
     }
 }

@@ -137,14 +137,14 @@ struct Room([Vec<u32>; 3]);
 impl Room {
     fn new(case: &Case) -> Self {
         let n = case.longest();
-        Room([vec![0; n], vec![0; 17 * n], vec![0; 17 * n]])
+        Room([vec![0; n], vec![0; 18 * n], vec![0; 18 * n]])
     }
 
-    /// A parse of n tokens after the typecode, with n frames and 17n list entries, and so many passes for each token.
+    /// A parse of n tokens after the typecode, with n frames and 18n list entries, and so many passes for each token.
     fn parse<'a>(&'a mut self, core: &Core, case: &Case, tokens: &[u32], passes: u32) -> ([u32; 4], &'a [u32]) {
         let n = tokens.len() - 1;
         let [frames, list, work] = &mut self.0;
-        let (f, o, w) = (&mut frames[..n], &mut list[..17 * n], &mut work[..17 * n]);
+        let (f, o, w) = (&mut frames[..n], &mut list[..18 * n], &mut work[..18 * n]);
         let (p, l, allowance) = (case.provable, case.logic, passes * n as u32);
         let a = (core.parse)(p, l, &case.rules, &case.nodes, &case.edges, tokens, allowance, f, o, w);
         (a, &list[..a[2] as usize])
@@ -224,7 +224,7 @@ impl Core {
 
     fn verify(&self, case: &Case, outcomes: &Outcomes) -> f64 {
         let accepted = accepted(case, outcomes);
-        let mut work = vec![0; 17 * case.longest()];
+        let mut work = vec![0; 18 * case.longest()];
         let all = time(|| {
             for (tokens, list) in &accepted {
                 black_box((self.verify)(
@@ -281,7 +281,7 @@ fn read_once(case: &Case, outcomes: &Outcomes) -> Column {
     let rooms = |n: usize| plain::Rooms {
         allowance: 4 * n as u32,
         frames: n,
-        list: 17 * n,
+        list: 18 * n,
     };
     let parse = time(|| {
         for tokens in &case.statements {

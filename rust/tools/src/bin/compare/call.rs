@@ -230,13 +230,6 @@ impl fmt::Display for Outcome {
     }
 }
 
-/// The library's entry points.
-mod library_words {
-    pub use jiehkavon::words::*;
-    // A stand-in, until the library has packages: without this line it is held against the ordinary Rust.
-    pub use plain::words::{package_read, package_write};
-}
-
 /// Both sides have the same functions and fields, and no type in common.
 macro_rules! side {
     ($name:ident, $($words:tt)+) => {
@@ -282,7 +275,7 @@ macro_rules! side {
     };
 }
 
-side!(library, self::library_words);
+side!(library, jiehkavon::words);
 side!(ordinary, plain::words);
 
 /// What the two sides gave back. The ordinary one may also panic, which is a disagreement like any other.
