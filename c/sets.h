@@ -3,6 +3,7 @@
 #define SETS_H
 
 #include "calls.h"
+#include "jiehkavon.h"
 
 #define LENGTH(array) (sizeof(array) / sizeof((array)[0]))
 

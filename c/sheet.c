@@ -244,24 +244,25 @@ static void check_verifies(void) {
     }
 }
 
-/* Set T: the walk does not find the tree that the check accepts. */
+/* Set T: the conversion at the end pops the frame that wants it. */
 static void check_set_t(void) {
     static const uint32_t rules[] = {20, 1, 0, 30, 21, 1, 1, 20, 22, 1, 1, 21, 2, 2, 0, 31, 1, 22};
     static const uint32_t tokens[] = {1, 31, 30}, list[] = {1, 2, 3, 4};
     uint32_t nodes[9], edges[9 * JIEHKAVON_ROW_WIDTH];
     jiehkavon_built built = jiehkavon_build(PROVABLE, LOGIC, rules, LENGTH(rules), nodes, LENGTH(nodes), edges, LENGTH(edges));
     call c = call_s(PARSE, 99);
-    expected e = {.given = {{JIEHKAVON_NOT_WELL_TYPED, 0, 0, 4}}};
+    expected e = {.given = {{JIEHKAVON_OK, 0, LENGTH(list), 5}}};
     check(built.number == JIEHKAVON_OK, "build of set T gave %u", built.number);
     c.slices[RULES] = SLICE(rules);
     c.slices[NODES] = (slice){nodes, built.nodes};
     c.slices[EDGES] = (slice){edges, (size_t)JIEHKAVON_ROW_WIDTH * built.edges};
     c.slices[TOKENS] = SLICE(tokens);
     c.slices[FRAMES] = c.slices[LIST] = c.slices[WORK] = garbage(60);
+    e.front[LIST] = SLICE(list);
     check_call(&c, &e, "set T's sentence");
     c.entry = VERIFY;
     c.slices[LIST] = SLICE(list);
-    e.given = (outcome){{JIEHKAVON_OK, 0, 0, 0}};
+    e = (expected){.given = {{JIEHKAVON_OK, 0, 0, 0}}};
     check_call(&c, &e, "check of set T's sentence");
 }
 

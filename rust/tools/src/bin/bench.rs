@@ -544,6 +544,11 @@ fn nested(depth: usize) -> Vec<u32> {
     [vec![1], [5, 10, 7].repeat(depth), vec![11], vec![6; depth]].concat()
 }
 
+/// Rule 6 of set S within itself: all frames, and one tree.
+fn chained(depth: usize) -> Vec<u32> {
+    [vec![1], vec![14; depth], vec![10]].concat()
+}
+
 /// Rules with 32 constants each: 32 rows for one rule.
 fn rows_before(count: u32) -> Vec<u32> {
     let rule = |k: u32| [vec![2, 32, 0, 1000 + k], [0, 999].repeat(31)].concat();
@@ -586,10 +591,15 @@ fn database(bench: &Bench, path: &str) -> Result<(), String> {
 }
 
 fn growths(bench: &Bench) {
-    let depths = [1, 2, 4, 8, 16, 32, 64, 128, 256, 512, 1023];
+    let depths = [1, 2, 4, 8, 16, 32, 64, 128, 256, 512, 1023, 2047, 4095, 8191];
     bench.growth(
-        "**More tokens**: set S, the ten-pass sentence nested",
+        "**More tokens, wide**: set S, the ten-pass sentence nested: a tree waits at every level",
         depths.iter().map(|&n| set_s(vec![], nested(n))),
+    );
+    let chains = [998, 2_046, 4_094, 8_190, 16_382, 32_767];
+    bench.growth(
+        "**More tokens, deep**: set S, rule 6 within itself: a frame waits at every level",
+        chains.iter().map(|&n| set_s(vec![], chained(n))),
     );
     let rules = [0, 4, 8, 16, 32, 64, 128, 255];
     bench.growth(
