@@ -30,7 +30,8 @@ pub enum Reduced {
 
 // ---- reducing
 
-// The rule is reduced under the top `offset` trees: too few trees before a full list. A rule that is not there has too few.
+// The rule is reduced under the top `offset` trees: too few trees before a full list. A rule that is not there has too few. The trees are taken
+// over by their fields, as they were written: a copy of both at once waits for the two.
 pub fn reduce(
     rules: &[u32],
     room: usize,
@@ -48,7 +49,10 @@ pub fn reduce(
     match fit {
         sizes::Fit::At(place, t) => {
             words::insert(list, s.len, place, rule.0);
-            Reduced::Done(t)
+            Reduced::Done(Trees {
+                count: t.count,
+                len: t.len,
+            })
         }
         sizes::Fit::TooFew => Reduced::TooFew,
         sizes::Fit::Full => Reduced::Full,

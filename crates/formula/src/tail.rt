@@ -66,7 +66,10 @@ fn plan(
         match fit {
             sizes::Fit::At(place, t) => {
                 put(places, entries, k, place, d.rule);
-                out = t;
+                out = Trees {
+                    count: t.count,
+                    len: t.len,
+                };
             }
             sizes::Fit::TooFew => {
                 return Reduced::TooFew;

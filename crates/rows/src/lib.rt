@@ -2,6 +2,7 @@
 ghost use mathlib.Core.Path.{_≡_};
 ghost use mathlib.Core.Bool.{not};
 ghost use Prim.Native.Nat.{_+_, _/_, _≤_, _<_};
+ghost use lib.Dec.{ltb};
 ghost use lib.ListN.{length, getD};
 ghost use Rattle.words.specs.Limits.{rowWidth, mostReduces, mostOffset};
 ghost use Rattle.rows.specs.Rows.{edgeOf, edgesOf, rowWords, keyed, bare, goodNodes, goodPair, rootToLeaf, goodEnds, nodesGood, edgesGood, tablesGood};
@@ -78,6 +79,22 @@ pub fn read_row(edges: &[u32], row: usize) -> Edge
 {
     let at = words::ROW_WIDTH * row;
     read_edge(&edges[at..at + words::ROW_WIDTH])
+}
+
+// Where a row leads.
+pub fn end_of(edges: &[u32], row: usize) -> words::NodeNo
+    requires { ⌜ row < length (now edges) / rowWidth ⌝ }
+    ensures { λ r. ⌜ r .0 ≡ edgeOf (rowAt (now (edges .entry)) row) .to ⌝ }
+{
+    words::NodeNo(edges[words::ROW_WIDTH * row + 3])
+}
+
+// Whether a row has reduces, so that one without any need not be read whole.
+pub fn has_reduces(edges: &[u32], row: usize) -> bool
+    requires { ⌜ row < length (now edges) / rowWidth ⌝ }
+    ensures { λ r. ⌜ r ≡ ltb 0 (length (edgeOf (rowAt (now (edges .entry)) row) .reduces)) ⌝ }
+{
+    0 < edges[words::ROW_WIDTH * row + 4]
 }
 
 // The reduce at place `k`; zeros where the edge has none there.

@@ -7,8 +7,9 @@ use Prim.Native.Nat.{ℕ, zero, suc, pred, _+_, _-_, _/_, _≤_, _<_}
 use native.Mathlib.Nat.{sub-zero}
 use native.Mathlib.Numerals.{add-one}
 use native.Mathlib.Omega.{arith}
+use lib.Dec.{ltb}
 use lib.ListN.{length, getD, set, take, drop, drop-of-length-le, length-set}
-use borrow.Author.Tests.{eq-eqb, ne-eqb, lt-ltb, le-ltb}
+use borrow.Author.Tests.{eq-eqb, ne-eqb, lt-ltb, le-ltb, ltb-false}
 use lib.Seq.{drop-cons}
 use Rattle.words.specs.Outcome.{Res, ok, no, bind, when}
 use Rattle.words.specs.Limits.{rowWidth, mostReduces}
@@ -22,7 +23,7 @@ use Rattle.rules.specs.Code as rules
 use Rattle.rules.specs.Code.{Starts, Missing}
 use Rattle.rules.specs.declared.Start.{Start}
 use Rattle.rules.specs.declared.Start.the-variants as start
-use Rattle.rows.specs.Rows.{Edge, edgeOf, edgesOf, find, bare}
+use Rattle.rows.specs.Rows.{Reduce, Edge, edgeOf, edgesOf, find, bare}
 use Rattle.rows.specs.Code.{looksUp, edgeIs, Holds, rowAt}
 use Rattle.rows.specs.declared.Edge as edge
 use Rattle.rows.specs.laws.Lookup.{row-found, none-found}
@@ -37,7 +38,7 @@ use Rattle.formula.specs.declared.Trees as held
 use Rattle.formula.specs.declared.Reduced.{Reduced}
 use Rattle.formula.specs.declared.Reduced.the-variants.{Done, TooFew, Full}
 use Rattle.walk.specs.Walk.{Tables, tablesOf, Room, State, wanted, Choice, conversion, follow, stepBy, rootStep, finish, converted, convertBy, unwanted, popBy, goalBy, complete, leaf, token, branch, pass, Turn, after, start, walk}
-use Rattle.walk.specs.Code.{tables, roomOf, stack, stateOf, Chooses, Placed, Fit, Follows, Roots, Opens, Branches, Lies, Finishes, Bare, Framed, Stood, Ready, standAt, under, Unwanted, Completes, Leaves, choiceOf, Steps, withTrees, Converted, Closes}
+use Rattle.walk.specs.Code.{tables, roomOf, stack, stateOf, Chooses, Placed, Fit, Follows, Roots, Opens, Branches, Lies, Finishes, Bare, Framed, Stood, Ready, standAt, under, atNode, Unwanted, Completes, Leaves, choiceOf, Steps, withTrees, Converted, Closes}
 use Rattle.walk.specs.declared.Wish.{Wish}
 use Rattle.walk.specs.declared.Wish.the-variants.{Goal, Frame}
 use Rattle.walk.specs.declared.Stand.{Stand}
@@ -78,6 +79,18 @@ module _ (rs : List ℕ) (room : ℕ) {h : edge.Edge} {e : Edge} (d : Holds h e)
   follow-full q =
       let o : no noEntry ≡ all = rw q at (g .outcome) in
       subst (λ (x : Edge). To x (Stop NoEntry)) (d .says) λ ns es st ts fs goal p. record { turned = rw (← o); whole = tt }
+
+none-reduced : (ds : List Reduce) → ltb 0 (length ds) ≡ false → ds ≡ []
+none-reduced [] e = refl
+none-reduced (d ∷ ds) e = absurd (omega (arith, ltb-false 0 (suc (length ds)) e))
+
+-- an edge without reduces: its end alone is read
+pub follow-bare : (rs : List ℕ) (room : ℕ) (e : Edge) (s : At) (ls ws : List ℕ) {b : Bool} {q : At} → b ≡ ltb 0 (length (e .reduces)) → b ≡ false
+    → q ≡ atNode s (e .to) → formula.Inside room (s .trees) ls ws → Follows rs room e s ls ws (On q) ls ws
+unfolding follow tablesOf bind reduceAll
+follow-bare rs room e s ls ws h z o i =
+    subst (λ (x : At). Follows rs room e s ls ws (On x) ls ws) (sym o) λ ns es st ts fs goal p.
+    record { turned = rw (none-reduced (e .reduces) (sym h ∙ z)); whole = (record { begun = p .begun; token = p .token; frames = p .frames }, i) }
 
 -- ---- a variable edge that is looked up and followed
 

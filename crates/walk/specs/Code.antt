@@ -130,6 +130,10 @@ standAt p s = record { goal = p .goal; wish = p .wish; room = p .room; at = s }
 abbrev pub withTrees : At → held.Trees → At
 withTrees s us = record { node = s .node; frames = s .frames; trees = us; token = s .token; last = s .last }
 
+-- at this node
+abbrev pub atNode : At → ℕ → At
+atNode s n = record { node = record { 0 = n }; frames = s .frames; trees = s .trees; token = s .token; last = s .last }
+
 -- the top frame is popped
 abbrev pub under : At → At
 under s = record { node = s .node; frames = s .frames - 1; trees = s .trees; token = s .token; last = s .last }

@@ -12,7 +12,7 @@ ghost use Rattle.rows.specs.Rows.{edgeOf, tablesGood};
 ghost use Rattle.rows.specs.Code.{rowAt};
 ghost use Rattle.formula.specs.Code.{Inside};
 ghost use Rattle.walk.specs.Walk.{pass, run, start, wantedOf, walk};
-ghost use Rattle.walk.specs.Code.{stack, whyOf, wishOf, Wants, Converts, Chooses, choiceOf, Fit, Follows, Steps, Roots, Opens, Branches, Lies, Finishes, Bare, Stood, Ready, standAt, under, withTrees, Converted, Closes, Unwanted, Completes, Leaves, nodeIs, Passes, startAt, Lent, roomOf, tables, Answers};
+ghost use Rattle.walk.specs.Code.{stack, whyOf, wishOf, Wants, Converts, Chooses, choiceOf, Fit, Follows, Steps, Roots, Opens, Branches, Lies, Finishes, Bare, Stood, Ready, standAt, under, withTrees, atNode, Converted, Closes, Unwanted, Completes, Leaves, nodeIs, Passes, startAt, Lent, roomOf, tables, Answers};
 
 // List room past this is not used: a tree's size is one word, and no walk comes near it.
 const MOST_ROOM: usize = 4294967295;
@@ -188,6 +188,10 @@ fn conversion(rules: &[u32], edges: &[u32], wish: Wish, t: words::SymbolNo) -> C
 
 // ---- edges that are followed
 
+// Most edges have no reduces: what follows one asks first, and calls `follow`, which is large, for the others alone. The answer of a large
+// function is taken by a local before it is returned. Without that it is written where the caller's own answers go, which then lie in memory
+// too, and a pass waits for them.
+
 // The edge in this row is followed, its reduces first.
 fn follow(
     rules: &[u32],
@@ -218,6 +222,17 @@ fn follow(
     }
 }
 
+// Where an edge without reduces leads to.
+fn onward(edges: &[u32], row: usize, s: At) -> At
+    requires { ⌜ row < length (now edges) / rowWidth ⌝ }
+    ensures { λ r. ⌜ r ≡ atNode s (edgeOf (rowAt (now (edges .entry)) row) .to) ⌝ }
+{
+    let mut q = s;
+    let node = rows::end_of(edges, row);
+    q.node = node;
+    q
+}
+
 // The variable edge of node `from` for `t` is followed; none, no rule goes on.
 fn step(
     rules: &[u32],
@@ -235,7 +250,12 @@ fn step(
     let rows::Found::Row(row) = rows::look_up(edges, from, 1, t) else {
         return Turn::Stop(Why::Unparseable(p.at.last));
     };
-    follow(rules, edges, row, p, list, work)
+    if rows::has_reduces(edges, row) {
+        let turn = follow(rules, edges, row, p, list, work);
+        return turn;
+    }
+    let s = p.at;
+    Turn::On(onward(edges, row, s))
 }
 
 // Root step: node 0's variable edge for `t` is followed.
@@ -333,7 +353,11 @@ fn branch(
     s.last = i as u32;
     let mut taken = p;
     taken.at = s;
-    follow(rules, edges, row, taken, list, work)
+    if rows::has_reduces(edges, row) {
+        let turn = follow(rules, edges, row, taken, list, work);
+        return turn;
+    }
+    Turn::On(onward(edges, row, s))
 }
 
 // ---- the end of a walk
@@ -429,11 +453,13 @@ fn unwanted(
     let t = g.t;
     let p = g.stand;
     if p.at.token < tokens.len() {
-        return root_step(rules, edges, t, p, list, work);
+        let turn = root_step(rules, edges, t, p, list, work);
+        return turn;
     }
     let wish = p.wish;
     let Chosen::By(k) = conversion(rules, edges, wish, t) else {
-        return root_step(rules, edges, t, p, list, work);
+        let turn = root_step(rules, edges, t, p, list, work);
+        return turn;
     };
     convert(rules, edges, tokens, k, p, list, work)
 }
@@ -455,10 +481,12 @@ fn at_bottom(
     let p = g.stand;
     let s = p.at;
     if t.0 != p.goal.0 {
-        return unwanted(rules, edges, tokens, g, list, work);
+        let turn = unwanted(rules, edges, tokens, g, list, work);
+        return turn;
     }
     if s.token < tokens.len() {
-        return root_step(rules, edges, t, p, list, work);
+        let turn = root_step(rules, edges, t, p, list, work);
+        return turn;
     }
     finish(rules, tokens, p.goal, s.trees, list, work)
 }
@@ -479,13 +507,20 @@ fn complete(
     let p = g.stand;
     let wish = p.wish;
     let Wish::Frame(top) = wish else {
-        return at_bottom(rules, edges, tokens, g, list, work);
+        let turn = at_bottom(rules, edges, tokens, g, list, work);
+        return turn;
     };
     let rows::Found::Row(row) = rows::look_up(edges, top, 1, g.t) else {
-        return unwanted(rules, edges, tokens, g, list, work);
+        let turn = unwanted(rules, edges, tokens, g, list, work);
+        return turn;
     };
     let q = under(p);
-    follow(rules, edges, row, q, list, work)
+    if rows::has_reduces(edges, row) {
+        let turn = follow(rules, edges, row, q, list, work);
+        return turn;
+    }
+    let s = q.at;
+    Turn::On(onward(edges, row, s))
 }
 
 // The leaf's rule is reduced.

@@ -1,6 +1,6 @@
 //! Times an edge with 1 to 5 reduces under a long top tree. `reduces ENTRIES REDUCES` times one such edge with the library that this program is
-//! linked with. `reduces --beside PROGRAM` runs itself and PROGRAM, the same with another library, on every case in turn, and prints a table;
-//! the two must give the same answers and the same lists.
+//! linked with. `reduces --beside PROGRAM` runs itself and PROGRAM, the same with another library, on every case in turn, and prints what an edge
+//! takes and what the whole parse does; the two must give the same answers and the same lists.
 //!
 //! The tables are made by hand. Two trees stand in the list. Some tokens let the top one grow, by conversions to and fro; each token
 //! after them takes an edge whose reduces go to the tree below, so that the top one has to move. Then the two are joined, and become the lower
@@ -117,8 +117,16 @@ impl Parse {
     }
 }
 
-/// Of one case: the entries of the top tree when the first edge is taken, nanoseconds of an edge, and the answer with its list in one number.
-fn measure(entries: usize, reduces: usize) -> (usize, f64, u64) {
+/// Of one case: the entries of the top tree when the first edge is taken, nanoseconds of an edge and of the whole parse, and the answer with its
+/// list in one number.
+struct Figures {
+    top: usize,
+    edge: f64,
+    parse: f64,
+    digest: u64,
+}
+
+fn measure(entries: usize, reduces: usize) -> Figures {
     let pairs = pairs(entries);
     let blocks = (TOKENS - 2) / block(entries, pairs).len();
     let of = |pairs: usize| {
@@ -147,11 +155,16 @@ fn measure(entries: usize, reduces: usize) -> (usize, f64, u64) {
             black_box(without.run());
         },
     );
-    (top, (long - short) / (2 * pairs * blocks) as f64, digest)
+    Figures {
+        top,
+        edge: (long - short) / (2 * pairs * blocks) as f64,
+        parse: long,
+        digest,
+    }
 }
 
 /// What a program prints for one case.
-fn ask(program: &str, entries: usize, reduces: usize) -> (usize, f64, u64) {
+fn ask(program: &str, entries: usize, reduces: usize) -> Figures {
     let output = Command::new(program)
         .args([entries.to_string(), reduces.to_string()])
         .output()
@@ -163,33 +176,39 @@ fn ask(program: &str, entries: usize, reduces: usize) -> (usize, f64, u64) {
     );
     let text = String::from_utf8(output.stdout).expect("figures");
     let mut words = text.split_whitespace();
-    let mut word = || words.next().expect("three figures");
-    let figures = (word().parse(), word().parse(), word().parse());
-    (
-        figures.0.expect("entries"),
-        figures.1.expect("nanoseconds"),
-        figures.2.expect("a digest"),
-    )
+    let mut word = || words.next().expect("four figures");
+    Figures {
+        top: word().parse().expect("entries"),
+        edge: word().parse().expect("nanoseconds"),
+        parse: word().parse().expect("nanoseconds"),
+        digest: word().parse().expect("a digest"),
+    }
+}
+
+/// A row of both programs' figures for each number of reduces, after the entries of the top tree.
+fn row(pairs: &[[Figures; 2]], of: impl Fn(&Figures) -> f64) -> String {
+    let cells: String = pairs.iter().flatten().map(|figures| format!(" {:.0} |", of(figures))).collect();
+    format!("| {} |{cells}", pairs[0][1].top)
 }
 
 fn beside(other: &str) {
     let this = current_exe().expect("a program knows its name").to_string_lossy().into_owned();
-    println!("Nanoseconds of an edge: the other library, then this one.\n");
-    println!(
-        "| entries of the top tree |{}",
-        REDUCES.map(|r| format!(" {r}, other | {r}, this |")).concat()
-    );
-    println!("|{}", "---|".repeat(1 + 2 * REDUCES.len()));
-    for entries in ENTRIES {
-        let mut cells = String::new();
-        let mut top = 0;
-        for reduces in REDUCES {
-            let (theirs, ours) = (ask(other, entries, reduces), ask(&this, entries, reduces));
-            assert_eq!((theirs.0, theirs.2), (ours.0, ours.2), "both libraries answer alike");
-            top = ours.0;
-            cells += &format!(" {:.0} | {:.0} |", theirs.1, ours.1);
-        }
-        println!("| {top} |{cells}");
+    let both = |entries: usize, reduces: usize| {
+        let pair = [ask(other, entries, reduces), ask(&this, entries, reduces)];
+        let [theirs, ours] = &pair;
+        assert_eq!((theirs.top, theirs.digest), (ours.top, ours.digest), "both libraries answer alike");
+        pair
+    };
+    let cases = ENTRIES.map(|entries| REDUCES.map(|reduces| both(entries, reduces)));
+    let names = REDUCES.map(|r| format!(" {r}, other | {r}, this |")).concat();
+    let head = format!("| entries of the top tree |{names}\n|{}", "---|".repeat(1 + 2 * REDUCES.len()));
+    println!("Nanoseconds of an edge: the other library, then this one.\n\n{head}");
+    for pairs in &cases {
+        println!("{}", row(pairs, |figures| figures.edge));
+    }
+    println!("\nMicroseconds of the whole parse, likewise.\n\n{head}");
+    for pairs in &cases {
+        println!("{}", row(pairs, |figures| figures.parse / 1e3));
     }
 }
 
@@ -199,8 +218,8 @@ fn main() -> ExitCode {
     match (words.as_slice(), numbers.as_deref()) {
         ([option, program], _) if option == "--beside" => beside(program),
         (_, Some(&[entries, reduces])) if REDUCES.contains(&reduces) => {
-            let (top, nanoseconds, digest) = measure(entries, reduces);
-            println!("{top} {nanoseconds} {digest}");
+            let Figures { top, edge, parse, digest } = measure(entries, reduces);
+            println!("{top} {edge} {parse} {digest}");
         }
         _ => {
             eprintln!("reduces: ENTRIES and REDUCES (1 to 5), or --beside PROGRAM");
