@@ -10,13 +10,13 @@
 
 static const unsigned taken[ENTRIES] = {
     [BODY] = BIT(RULES),
-    [BUILD] = BIT(RULES) | BIT(NODES) | BIT(EDGES),
+    [BUILD] = BIT(RULES) | BIT(COMMANDS) | BIT(NODES) | BIT(EDGES) | BIT(FRAMES),
     [PARSE] = BIT(RULES) | BIT(NODES) | BIT(EDGES) | BIT(TOKENS) | BIT(FRAMES) | BIT(LIST) | BIT(WORK),
     [VERIFY] = BIT(RULES) | BIT(TOKENS) | BIT(LIST) | BIT(WORK),
 };
 
 static const unsigned written[ENTRIES] = {
-    [BUILD] = BIT(NODES) | BIT(EDGES),
+    [BUILD] = BIT(NODES) | BIT(EDGES) | BIT(FRAMES),
     [PARSE] = BIT(FRAMES) | BIT(LIST) | BIT(WORK),
     [VERIFY] = BIT(WORK),
 };
@@ -42,8 +42,10 @@ static outcome ask_build(const call *c, const slice *s) {
     jiehkavon_built r = jiehkavon_build(
         c->provable, c->logic,
         s[RULES].words, s[RULES].length,
+        s[COMMANDS].words, s[COMMANDS].length,
         s[NODES].words, s[NODES].length,
-        s[EDGES].words, s[EDGES].length);
+        s[EDGES].words, s[EDGES].length,
+        s[FRAMES].words, s[FRAMES].length);
     return (outcome){{r.number, r.nodes, r.edges, 0}};
 }
 

@@ -6,7 +6,7 @@
 #include <stdint.h>
 
 enum { BODY, BUILD, PARSE, VERIFY, ENTRIES };
-enum { RULES, NODES, EDGES, TOKENS, FRAMES, LIST, WORK, SLICES };
+enum { RULES, COMMANDS, NODES, EDGES, TOKENS, FRAMES, LIST, WORK, SLICES };
 
 typedef struct slice {
     uint32_t *words;

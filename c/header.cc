@@ -12,7 +12,7 @@ static_assert(sizeof(jiehkavon_written) == 24, "a padded word and two sizes");
 int main() {
     const uint32_t rules[] = {2, 1, 0, 10}, tokens[] = {1, 10};
     uint32_t nodes[2], edges[JIEHKAVON_ROW_WIDTH], list[JIEHKAVON_LIST_A_TOKEN], work[JIEHKAVON_LIST_A_TOKEN];
-    const jiehkavon_built built = jiehkavon_build(1, 2, rules, 4, nodes, 2, edges, JIEHKAVON_ROW_WIDTH);
+    const jiehkavon_built built = jiehkavon_build(1, 2, rules, 4, nullptr, 0, nodes, 2, edges, JIEHKAVON_ROW_WIDTH, nullptr, 0);
     const jiehkavon_answer parsed = jiehkavon_parse(1, 2, rules, 4, nodes, 2, edges, JIEHKAVON_ROW_WIDTH, tokens, 2,
                                                     jiehkavon_enough_passes(2), nullptr, 0, list,
                                                     jiehkavon_enough_list(2), work, jiehkavon_enough_list(2));

@@ -43,8 +43,8 @@ static int same_slices(const call *a, const call *b, outcome o) {
 
 static void say(int good, const call *c, int end, const char *what) {
     const slice *s = c->slices;
-    check(good, "%s: entry %d, end %d, lengths %zu %zu %zu %zu %zu %zu %zu", what, c->entry, end, s[0].length, s[1].length, s[2].length,
-          s[3].length, s[4].length, s[5].length, s[6].length);
+    check(good, "%s: entry %d, end %d, lengths %zu %zu %zu %zu %zu %zu %zu %zu", what, c->entry, end, s[0].length, s[1].length, s[2].length,
+          s[3].length, s[4].length, s[5].length, s[6].length, s[7].length);
 }
 
 /* Whether ordinary memory gives the same. */
@@ -82,14 +82,11 @@ static void check_on(const grounds *g, const call *c) {
         check_in_blocks(c);
 }
 
-/* A call over set S in the least room that it needs. */
+/* A call over set S, or the build with a garden path, in the least room that it needs. */
 static call least(int entry, uint32_t number) {
     call c = call_s(entry, number);
-    if (entry == BUILD) {
-        c.slices[NODES] = garbage(S_NODES);
-        c.slices[EDGES] = garbage((size_t)S_EDGES * JIEHKAVON_ROW_WIDTH);
-        return c;
-    }
+    if (entry == BUILD)
+        return build_e();
     c.slices[FRAMES] = garbage(1);
     c.slices[LIST] = entry == PARSE ? garbage(3) : ten_passes_list;
     c.slices[WORK] = garbage(3);
@@ -134,7 +131,7 @@ static int next(size_t *lengths, const size_t *most) {
 
 /* The set of one rule with these lengths. Edges go by half rows, for short, whole and left over ones. */
 static call cut_one(int entry, uint32_t number, const size_t *lengths) {
-    const slice from[SLICES] = {rules_one, nodes_one, edges_one, tokens_one, garbage(0), list_one, garbage(0)};
+    const slice from[SLICES] = {rules_one, conversions, nodes_one, edges_one, tokens_one, garbage(0), list_one, garbage(0)};
     call c = {.entry = entry, .provable = PROVABLE, .logic = LOGIC, .number = number};
     for (int kind = 0; kind < SLICES; kind++) {
         c.slices[kind].words = writes(entry, kind) ? garbage(0).words : from[kind].words;
@@ -154,10 +151,10 @@ static void check_combinations(const grounds *g, int entry, uint32_t number, con
 
 static void check_small(const grounds *g) {
     static const size_t most[ENTRIES][SLICES] = {
-        [BODY] = {4, 0, 0, 0, 0, 0, 0},
-        [BUILD] = {4, 3, 5, 0, 0, 0, 0},
-        [PARSE] = {4, 2, 2, 2, 1, 2, 2},
-        [VERIFY] = {4, 0, 0, 2, 0, 1, 2},
+        [BODY] = {[RULES] = 4},
+        [BUILD] = {[RULES] = 4, [COMMANDS] = 1, [NODES] = 3, [EDGES] = 5, [FRAMES] = 2},
+        [PARSE] = {[RULES] = 4, [NODES] = 2, [EDGES] = 2, [TOKENS] = 2, [FRAMES] = 1, [LIST] = 2, [WORK] = 2},
+        [VERIFY] = {[RULES] = 4, [TOKENS] = 2, [LIST] = 1, [WORK] = 2},
     };
     check_combinations(g, BODY, 1, most[BODY]);
     check_combinations(g, BUILD, 0, most[BUILD]);

@@ -40,22 +40,62 @@ static const uint32_t edge_words[S_EDGES][16] = {
 static const uint32_t ten_pass_words[] = {1, 5, 10, 7, 11, 6};
 static const uint32_t ten_pass_list_words[] = {1, 2, 7};
 
+static const uint32_t e_rules[] = {
+    3, 1, 0, 20,                                 /* 1: 3 [c20] */
+    2, 1, 0, 21,                                 /* 2: 2 [c21] */
+    2, 3, 1, 3, 0, 8, 1, 3,                      /* 3: 2 [s3 c8 s3] */
+    3, 5, 0, 5, 1, 3, 0, 9, 1, 3, 0, 6,          /* 4: 3 [c5 s3 c9 s3 c6] */
+    2, 5, 0, 5, 1, 2, 0, 7, 1, 2, 0, 6,          /* 5: 2 [c5 s2 c7 s2 c6] */
+};
+static const uint32_t e_path[] = {JIEHKAVON_GARDEN_PATH, 2, 2, 0, 5, 1, 3, 0, 5, 1, 2};
+static const uint32_t e_nodes[E_NODES] = {0, 1, 2, 0, 0, 3, 0, 0, 0, 0, 4, 0, 0, 0, 5, 0};
+
+/* the last two are the path's: a branch that was copied, and an edge that reduces rule 3 and leads to the shadow's node */
+static const uint32_t e_edges[E_EDGES][16] = {
+    {0, 0, 20, 1},
+    {0, 0, 21, 2},
+    {0, 1, 3, 3},
+    {3, 0, 8, 4},
+    {4, 1, 3, 5},
+    {0, 0, 5, 6},
+    {6, 1, 3, 7},
+    {7, 0, 9, 8},
+    {8, 1, 3, 9},
+    {9, 0, 6, 10},
+    {6, 1, 2, 11},
+    {11, 0, 7, 12},
+    {12, 1, 2, 13},
+    {13, 0, 6, 14},
+    {7, 0, 8, 15},
+    {15, 1, 3, 11, 1, 3, 0},
+};
+static const uint32_t e_tokens[] = {1, 5, 20, 8, 20, 7, 21, 6};
+static const uint32_t e_list[] = {1, 1, 3, 2, 5};
+
 static const uint32_t one_rule[] = {2, 1, 0, 10};
 static const uint32_t one_nodes[] = {0, 1};
 static const uint32_t one_edge[16] = {0, 0, 10, 1};
 static const uint32_t one_tokens[] = {1, 10};
 static const uint32_t one_list[] = {1};
+static const uint32_t conversion_words[] = {JIEHKAVON_TYPE_CONVERSIONS};
 
 const slice rules_s = WORDS(rule_words);
 const slice nodes_s = WORDS(node_words);
 const slice edges_s = {(uint32_t *)edge_words, S_EDGES * 16};
 const slice ten_passes = WORDS(ten_pass_words);
 const slice ten_passes_list = WORDS(ten_pass_list_words);
+const slice rules_e = WORDS(e_rules);
+const slice path_e = WORDS(e_path);
+const slice nodes_e = WORDS(e_nodes);
+const slice edges_e = {(uint32_t *)e_edges, E_EDGES * 16};
+const slice tokens_e = WORDS(e_tokens);
+const slice list_e = WORDS(e_list);
 const slice rules_one = WORDS(one_rule);
 const slice nodes_one = WORDS(one_nodes);
 const slice edges_one = WORDS(one_edge);
 const slice tokens_one = WORDS(one_tokens);
 const slice list_one = WORDS(one_list);
+const slice conversions = WORDS(conversion_words);
 
 call call_s(int entry, uint32_t number) {
     call c = {.entry = entry, .provable = PROVABLE, .logic = LOGIC, .number = number};
@@ -65,6 +105,16 @@ call call_s(int entry, uint32_t number) {
         c.slices[EDGES] = edges_s;
     }
     c.slices[TOKENS] = ten_passes;
+    return c;
+}
+
+call build_e(void) {
+    call c = {.entry = BUILD, .provable = PROVABLE, .logic = LOGIC};
+    c.slices[RULES] = rules_e;
+    c.slices[COMMANDS] = path_e;
+    c.slices[NODES] = garbage(E_NODES);
+    c.slices[EDGES] = garbage((size_t)E_EDGES * JIEHKAVON_ROW_WIDTH);
+    c.slices[FRAMES] = garbage((size_t)E_FRAMES * JIEHKAVON_CLONE_WIDTH);
     return c;
 }
 

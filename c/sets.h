@@ -15,14 +15,24 @@ enum { PROVABLE = 1, LOGIC = 2, S_NODES = 17, S_EDGES = 19 };
 
 extern const slice rules_s, nodes_s, edges_s;
 
+/* A set in which `c5 s3` hides `c5 s2`, the garden path that says so, its tree with and without that, a sentence that needs it and its list. */
+enum { E_NODES = 16, E_EDGES = 16, E_FRAMES = 2 };
+extern const slice rules_e, path_e, nodes_e, edges_e, tokens_e, list_e;
+
 /* 1 5 10 7 11 6 and its list. */
 extern const slice ten_passes, ten_passes_list;
 
 /* 2: c10, its tree, and 1 10 with its list. */
 extern const slice rules_one, nodes_one, edges_one, tokens_one, list_one;
 
+/* The conversions, asked for. */
+extern const slice conversions;
+
 /* A call over set S, with the ten-pass sentence and no room at all. */
 call call_s(int entry, uint32_t number);
+
+/* A build of the set with the garden path, in garbage that is just enough. */
+call build_e(void);
 
 /* Slices lent for writing hold this before a call: so many words that are no zeros. */
 enum { MOST_GARBAGE = JIEHKAVON_MOST_LIST };

@@ -54,12 +54,15 @@ static void check_build(size_t nodes, size_t edge_words, uint32_t number) {
     expected e = {.given = {{number, 0, 0, 0}}};
     c.slices[NODES] = garbage(nodes);
     c.slices[EDGES] = garbage(edge_words);
+    c.slices[FRAMES] = garbage(nodes);
     if (number == JIEHKAVON_OK) {
         e.given = (outcome){{JIEHKAVON_OK, S_NODES, S_EDGES, 0}};
         e.front[NODES] = nodes_s;
         e.front[EDGES] = edges_s;
     }
     check_call(&c, &e, "build of set S");
+    c.slices[COMMANDS] = conversions;
+    check_call(&c, &e, "build of set S with its conversions asked for");
 }
 
 static void check_builds(void) {
@@ -249,7 +252,8 @@ static void check_set_t(void) {
     static const uint32_t rules[] = {20, 1, 0, 30, 21, 1, 1, 20, 22, 1, 1, 21, 2, 2, 0, 31, 1, 22};
     static const uint32_t tokens[] = {1, 31, 30}, list[] = {1, 2, 3, 4};
     uint32_t nodes[9], edges[9 * JIEHKAVON_ROW_WIDTH];
-    jiehkavon_built built = jiehkavon_build(PROVABLE, LOGIC, rules, LENGTH(rules), nodes, LENGTH(nodes), edges, LENGTH(edges));
+    jiehkavon_built built =
+        jiehkavon_build(PROVABLE, LOGIC, rules, LENGTH(rules), NULL, 0, nodes, LENGTH(nodes), edges, LENGTH(edges), NULL, 0);
     call c = call_s(PARSE, 99);
     expected e = {.given = {{JIEHKAVON_OK, 0, LENGTH(list), 5}}};
     check(built.number == JIEHKAVON_OK, "build of set T gave %u", built.number);
@@ -266,6 +270,91 @@ static void check_set_t(void) {
     check_call(&c, &e, "check of set T's sentence");
 }
 
+/* A build of the set with the garden path, with other commands and in other room. */
+static void check_build_e(slice commands, size_t nodes, size_t edge_words, size_t frame_words, uint32_t number) {
+    call c = build_e();
+    expected e = {.given = {{number, 0, 0, 0}}};
+    c.slices[COMMANDS] = commands;
+    c.slices[NODES] = garbage(nodes);
+    c.slices[EDGES] = garbage(edge_words);
+    c.slices[FRAMES] = garbage(frame_words);
+    if (number == JIEHKAVON_OK) {
+        e.given = (outcome){{JIEHKAVON_OK, E_NODES, E_EDGES, 0}};
+        e.front[NODES] = nodes_e;
+        e.front[EDGES] = edges_e;
+    }
+    check_call(&c, &e, "build with a garden path");
+}
+
+static void check_garden_path(void) {
+    static const uint32_t then_none[] = {JIEHKAVON_GARDEN_PATH, 2, 2, 0, 5, 1, 3, 0, 5, 1, 2, 3};
+    static const uint32_t absent[] = {JIEHKAVON_GARDEN_PATH, 2, 2, 0, 5, 1, 7, 0, 5, 1, 2};
+    const size_t all = (size_t)E_EDGES * JIEHKAVON_ROW_WIDTH, frames = (size_t)E_FRAMES * JIEHKAVON_CLONE_WIDTH;
+    check_build_e(path_e, E_NODES, all, frames, JIEHKAVON_OK);
+    check_build_e(path_e, E_NODES + 3, all + 20, JIEHKAVON_MOST_CLONE_WORDS, JIEHKAVON_OK);
+    check_build_e(path_e, E_NODES, all, 0, JIEHKAVON_FRAMES_FULL);
+    check_build_e(path_e, E_NODES, all, frames - 1, JIEHKAVON_FRAMES_FULL);
+    check_build_e(path_e, E_NODES - 1, all, frames, JIEHKAVON_NODES_FULL);
+    check_build_e(path_e, E_NODES, all - 1, frames, JIEHKAVON_EDGES_FULL);
+    check_build_e(SLICE(then_none), E_NODES, all, frames, JIEHKAVON_BAD_COPY);
+    check_build_e(SLICE(absent), E_NODES, all, frames, JIEHKAVON_BAD_COPY);
+    check_build_e((slice){path_e.words, path_e.length - 1}, E_NODES, all, frames, JIEHKAVON_BAD_COPY);
+}
+
+/* Paths that copy until something gives out, in all the room that can be used. */
+static void check_garden_limits(void) {
+    static const uint32_t offsets[] = {2, 2, 1, 2, 1, 2, 2, 3, 0, 10, 1, 2, 0, 11, 2, 1, 1, 4, 2, 4, 0, 10, 0, 10, 1, 4, 0, 12};
+    static const uint32_t offset_paths[] = {2, 1, 2, 2, 0, 10, 1, 4, 0, 10, 1, 2, 1, 3, 2, 0, 10, 0, 10, 1, 4, 0, 10, 1, 2};
+    static const uint32_t circle[] = {2, 2, 1, 2, 0, 11, 2, 3, 0, 10, 1, 2, 1, 2, 2, 1, 1, 4, 2, 4, 0, 10, 0, 10, 1, 2, 1, 2};
+    static const uint32_t circle_paths[] = {2, 1, 2, 2, 0, 10, 1, 4, 0, 10, 1, 2, 1, 3, 3, 0, 10, 0, 10, 1, 4, 0, 10, 0,
+                                            10, 1, 2, 1, 3, 2, 0, 10, 0, 10, 1, 2, 0, 10, 1, 2};
+    static const uint32_t runaway[] = {2, 3, 0, 10, 0, 10, 1, 2, 2, 4, 0, 10, 0, 10, 0, 10, 1, 2};
+    static const uint32_t runaway_path[] = {1, 3, 3, 0, 10, 0, 10, 0, 10, 0, 10, 0, 10, 1, 2};
+    const struct {
+        slice rules, commands;
+        size_t frames;
+        uint32_t number;
+    } rows[] = {
+        {WORDS(offsets), WORDS(offset_paths), JIEHKAVON_MOST_CLONES, JIEHKAVON_OFFSET_TOO_LARGE},
+        {WORDS(circle), WORDS(circle_paths), JIEHKAVON_MOST_CLONES, JIEHKAVON_TOO_MANY_TAKEN},
+        {WORDS(circle), WORDS(circle_paths), JIEHKAVON_MOST_CLONES - 1, JIEHKAVON_FRAMES_FULL},
+        {WORDS(runaway), WORDS(runaway_path), JIEHKAVON_MOST_CLONES, JIEHKAVON_NODES_FULL},
+    };
+    for (size_t i = 0; i < LENGTH(rows); i++) {
+        call c = {.entry = BUILD, .provable = PROVABLE, .logic = LOGIC};
+        expected e = {.given = {{rows[i].number, 0, 0, 0}}};
+        c.slices[RULES] = rows[i].rules;
+        c.slices[COMMANDS] = rows[i].commands;
+        c.slices[NODES] = garbage(JIEHKAVON_MOST_NODES);
+        c.slices[EDGES] = garbage((size_t)JIEHKAVON_MOST_EDGES * JIEHKAVON_ROW_WIDTH);
+        c.slices[FRAMES] = garbage(JIEHKAVON_CLONE_WIDTH * rows[i].frames);
+        check_call(&c, &e, "a garden path that goes on");
+    }
+}
+
+/* The sentence that needs the path: without it there is no rule that goes on, with it the list comes, and the check takes that. */
+static void check_garden_sentence(void) {
+    const size_t bare = (size_t)(E_EDGES - 2) * JIEHKAVON_ROW_WIDTH;
+    call c = call_s(PARSE, jiehkavon_enough_passes(tokens_e.length));
+    expected e = {.given = {{JIEHKAVON_UNPARSEABLE, 3, 0, 6}}};
+    c.slices[RULES] = rules_e;
+    c.slices[NODES] = (slice){nodes_e.words, E_NODES - 1};
+    c.slices[EDGES] = (slice){edges_e.words, bare};
+    c.slices[TOKENS] = tokens_e;
+    c.slices[FRAMES] = garbage(jiehkavon_enough_frames(tokens_e.length));
+    c.slices[LIST] = c.slices[WORK] = garbage(jiehkavon_enough_list(tokens_e.length));
+    check_call(&c, &e, "a sentence without its garden path");
+    c.slices[NODES] = nodes_e;
+    c.slices[EDGES] = edges_e;
+    e = (expected){.given = {{JIEHKAVON_OK, 0, list_e.length, 14}}};
+    e.front[LIST] = list_e;
+    check_call(&c, &e, "a sentence with its garden path");
+    c.entry = VERIFY;
+    c.slices[LIST] = list_e;
+    e = (expected){.given = {{JIEHKAVON_OK, 0, 0, 0}}};
+    check_call(&c, &e, "check of that sentence");
+}
+
 void check_sheet(void) {
     static const struct {
         const char *name;
@@ -274,6 +363,9 @@ void check_sheet(void) {
         {"bodies", check_bodies},
         {"builds of set S", check_builds},
         {"refused builds", check_refused_builds},
+        {"a garden path", check_garden_path},
+        {"garden paths that go on", check_garden_limits},
+        {"a sentence that needs its garden path", check_garden_sentence},
         {"rows of the sheet", check_rows},
         {"the ten-pass sentence in little room", check_rooms},
         {"refused parses, in their order", check_refused_parses},

@@ -29,7 +29,7 @@ enum {
     JIEHKAVON_UNFINISHED = 3,      /* the tokens end where a rule wants more; the place is the last one */
     JIEHKAVON_NOT_WELL_TYPED = 4,  /* no well typed tree that spells the statement */
     JIEHKAVON_PASSES_USED_UP = 5,  /* a further pass is needed and the allowance is used up */
-    JIEHKAVON_FRAMES_FULL = 6,     /* a frame is needed and the frame slice is full */
+    JIEHKAVON_FRAMES_FULL = 6,     /* a frame is needed and the frame slice is full; of a parse, or of a garden path */
     JIEHKAVON_LIST_FULL = 7,       /* an entry is needed and the list or its work slice is full; or a package does not
                                     * fit a slice lent for it */
     JIEHKAVON_BAD_TABLES = 8,      /* the nodes or the edges are bad */
@@ -38,8 +38,11 @@ enum {
     JIEHKAVON_COLLISION = 11,      /* a body equals, begins or continues an earlier one */
     JIEHKAVON_NODES_FULL = 12,     /* a node is needed and none is free */
     JIEHKAVON_EDGES_FULL = 13,     /* an edge is needed and none is free */
-    JIEHKAVON_SIXTH_REDUCE = 14,   /* conversions put a sixth reduce on an edge */
-    JIEHKAVON_BAD_COPY = 16,       /* a conversion would copy from or to a leaf, or a node to itself */
+    JIEHKAVON_SIXTH_REDUCE = 14,   /* an edge, or a list on the way to one, would get a sixth reduce */
+    JIEHKAVON_OFFSET_TOO_LARGE = 15, /* a garden path would raise an offset past JIEHKAVON_MOST_OFFSET */
+    JIEHKAVON_BAD_COPY = 16,       /* a copy from or to a leaf, or of a node to itself; a garden path that doesn't fit
+                                    * the tree; words that are no command */
+    JIEHKAVON_TOO_MANY_TAKEN = 17, /* a garden path would take up more than JIEHKAVON_MOST_TAKEN edges */
     JIEHKAVON_BAD_LENGTH = 20,     /* a record's length is cut short, is under 2, or goes past the package */
     JIEHKAVON_UNKNOWN_KIND = 21,   /* there is no such kind of record */
     JIEHKAVON_WRONG_SIZE = 22,     /* a record's body has a wrong size, or a statement can't be written */
@@ -55,6 +58,7 @@ enum {
     JIEHKAVON_MOST_EDGES = 16384,
     JIEHKAVON_MOST_REDUCES = 5,    /* of an edge */
     JIEHKAVON_MOST_OFFSET = 255,   /* of a reduce */
+    JIEHKAVON_MOST_TAKEN = 16384,  /* edges that a garden path takes up */
     JIEHKAVON_MOST_TOKENS = 32769  /* of a statement, its typecode among them */
 };
 
@@ -62,6 +66,7 @@ enum {
 enum {
     JIEHKAVON_ITEM_WIDTH = 2,      /* words of an item */
     JIEHKAVON_ROW_WIDTH = 16,      /* words of an edge: from, kind, symbol, to, count, five times rule and offset, 0 */
+    JIEHKAVON_CLONE_WIDTH = 16,    /* words of a frame that a build is lent; one of a parse is a single word */
     JIEHKAVON_PASSES_A_TOKEN = 4,  /* passes for each token after the typecode that are always enough */
     JIEHKAVON_LIST_A_TOKEN = 18    /* words of the list, and of its work slice, likewise */
 };
@@ -88,6 +93,13 @@ enum {
     JIEHKAVON_MOST_PASSES = JIEHKAVON_PASSES_A_TOKEN * (JIEHKAVON_MOST_TOKENS - 1),
     JIEHKAVON_MOST_FRAMES = JIEHKAVON_MOST_TOKENS - 2,
     JIEHKAVON_MOST_LIST = JIEHKAVON_LIST_A_TOKEN * (JIEHKAVON_MOST_TOKENS - 1)
+};
+
+/* Frames, and words of them, that are always enough for the garden paths of a build; that is proved too. A build without
+ * garden paths needs none, set.mm with its own needs 12. Lending more changes nothing. */
+enum {
+    JIEHKAVON_MOST_CLONES = JIEHKAVON_MOST_TAKEN + 1,
+    JIEHKAVON_MOST_CLONE_WORDS = JIEHKAVON_CLONE_WIDTH * JIEHKAVON_MOST_CLONES
 };
 
 /* What a parse or a check answers. */
@@ -118,14 +130,24 @@ jiehkavon_stretch jiehkavon_body(
     const uint32_t *rules, size_t rules_length,
     uint32_t rule);
 
-/* Makes the tree of the rules. The nodes are at the front of `nodes`, the edges at the front of `edges`, zeros after
- * them. A node is one word, 0 for a branch, else the rule of a leaf; node 0 is the root and needs room too. If
- * refused (10 to 14, 16), both slices are zero. */
+/* The first word of a command. */
+enum {
+    JIEHKAVON_GARDEN_PATH = 1,     /* then the items of its prefix, the items of its shadow, and both, two words an item */
+    JIEHKAVON_TYPE_CONVERSIONS = 2 /* nothing more */
+};
+
+/* Makes the tree of the rules, and runs the commands after them in the order given; conversions that none of them asks
+ * for come last, so that no commands at all, and the conversions alone, give the same tree. The nodes are at the front
+ * of `nodes`, the edges at the front of `edges`, zeros after them. A node is one word, 0 for a branch, else the rule of
+ * a leaf; node 0 is the root and needs room too. `frames` is room for garden paths, JIEHKAVON_CLONE_WIDTH words each,
+ * and zero afterwards. If refused (6, 10 to 17), the first fault is told and all three slices are zero. */
 jiehkavon_built jiehkavon_build(
     uint32_t provable, uint32_t logic,
     const uint32_t *rules, size_t rules_length,
+    const uint32_t *commands, size_t commands_length,
     uint32_t *nodes, size_t nodes_length,
-    uint32_t *edges, size_t edges_length);
+    uint32_t *edges, size_t edges_length,
+    uint32_t *frames, size_t frames_length);
 
 /* Walks a statement through the tables, in at most `allowance` passes. `tokens` begins with the typecode; where that
  * is the provable one, the logic one is wanted. If accepted, the front of `list` holds the formula's rule numbers in

@@ -10,6 +10,9 @@ use crate::words::{Answer, Built, Read, Written};
 #[derive(Clone, Copy, Debug, PartialEq, Eq, Hash)]
 #[non_exhaustive]
 pub enum BuildError {
+    /// 6: a garden path needs a frame and none is free. A [`Grammar`](crate::Grammar) lends enough, so it never says this; it is there for
+    /// callers of [`words`](crate::words).
+    FramesFull,
     /// 10: a word of the rules is out of its range, a result is the provable typecode, or the provable and the logic typecode are one.
     BadRules,
     /// 11: a rule's body equals, begins or continues that of an earlier rule.
@@ -18,10 +21,15 @@ pub enum BuildError {
     NodesFull,
     /// 13: an edge is needed and none is free.
     EdgesFull,
-    /// 14: conversions put a sixth reduce on an edge.
+    /// 14: an edge would get a sixth reduce, or a garden path would store one.
     SixthReduce,
-    /// 16: a conversion would copy from or to a leaf, or a node to itself.
+    /// 15: a garden path would raise an offset past [`MOST_OFFSET`](crate::limits::MOST_OFFSET).
+    OffsetTooLarge,
+    /// 16: a conversion or a garden path would copy from or to a leaf, or a node to itself; or a garden path doesn't fit the tree; or words are
+    /// no command.
     BadCopy,
+    /// 17: a garden path would take up more than [`MOST_TAKEN`](crate::limits::MOST_TAKEN) edges.
+    TooManyTaken,
     /// A number that no build answers with. The library is proved not to; the type of a C function can't say that.
     Unlisted(u32),
 }
@@ -31,12 +39,15 @@ impl BuildError {
     pub fn of(built: Built) -> Option<BuildError> {
         match built.number {
             0 => None,
+            6 => Some(BuildError::FramesFull),
             10 => Some(BuildError::BadRules),
             11 => Some(BuildError::Collision),
             12 => Some(BuildError::NodesFull),
             13 => Some(BuildError::EdgesFull),
             14 => Some(BuildError::SixthReduce),
+            15 => Some(BuildError::OffsetTooLarge),
             16 => Some(BuildError::BadCopy),
+            17 => Some(BuildError::TooManyTaken),
             number => Some(BuildError::Unlisted(number)),
         }
     }
@@ -44,12 +55,15 @@ impl BuildError {
     /// The paper's number.
     pub fn number(&self) -> u32 {
         match *self {
+            BuildError::FramesFull => 6,
             BuildError::BadRules => 10,
             BuildError::Collision => 11,
             BuildError::NodesFull => 12,
             BuildError::EdgesFull => 13,
             BuildError::SixthReduce => 14,
+            BuildError::OffsetTooLarge => 15,
             BuildError::BadCopy => 16,
+            BuildError::TooManyTaken => 17,
             BuildError::Unlisted(number) => number,
         }
     }
@@ -58,12 +72,15 @@ impl BuildError {
 impl fmt::Display for BuildError {
     fn fmt(&self, f: &mut fmt::Formatter<'_>) -> fmt::Result {
         let why = match self {
+            BuildError::FramesFull => "a garden path needs more frames than there is room for",
             BuildError::BadRules => "the rules are bad",
             BuildError::Collision => "two rules have bodies of which one begins the other",
             BuildError::NodesFull => "the tree needs more nodes than there is room for",
             BuildError::EdgesFull => "the tree needs more edges than there is room for",
-            BuildError::SixthReduce => "conversions put a sixth reduce on an edge",
-            BuildError::BadCopy => "a conversion would copy from or to a leaf, or a node to itself",
+            BuildError::SixthReduce => "an edge, or a list on the way to one, would get a sixth reduce",
+            BuildError::OffsetTooLarge => "an offset would be raised past 255",
+            BuildError::BadCopy => "a copy from or to a leaf, or of a node to itself, or a garden path that doesn't fit the tree",
+            BuildError::TooManyTaken => "a garden path would take up too many edges",
             BuildError::Unlisted(_) => "the library gave a number that no build answers with",
         };
         write!(f, "build refused with {}: {why}", self.number())
@@ -76,12 +93,13 @@ impl Error for BuildError {}
 #[derive(Clone, Debug, PartialEq, Eq)]
 pub struct RefusedRules {
     why: BuildError,
+    command: Option<usize>,
     rules: Rules,
 }
 
 impl RefusedRules {
-    pub(crate) fn new(why: BuildError, rules: Rules) -> RefusedRules {
-        RefusedRules { why, rules }
+    pub(crate) fn new(why: BuildError, command: Option<usize>, rules: Rules) -> RefusedRules {
+        RefusedRules { why, command, rules }
     }
 
     /// Why there is no tree.
@@ -92,6 +110,12 @@ impl RefusedRules {
     /// The paper's number.
     pub fn number(&self) -> u32 {
         self.why.number()
+    }
+
+    /// The command that was refused, counted from 1 in the order in which they were given. None if it was the rules, or the conversions that come
+    /// last where no command asks for them.
+    pub fn command(&self) -> Option<usize> {
+        self.command
     }
 
     /// The rules, as they were handed over.
@@ -107,7 +131,11 @@ impl RefusedRules {
 
 impl fmt::Display for RefusedRules {
     fn fmt(&self, f: &mut fmt::Formatter<'_>) -> fmt::Result {
-        self.why.fmt(f)
+        self.why.fmt(f)?;
+        match self.command {
+            Some(command) => write!(f, ", at command {command}"),
+            None => Ok(()),
+        }
     }
 }
 

@@ -46,11 +46,14 @@
 //!
 //! Rules and statements also come as one file, a [`Package`].
 //!
+//! Where one rule begins with what another one has a slot for, a tree alone goes wrong; [`Grammar::builder`] takes garden paths for that.
+//!
 //! Nothing here panics, whatever words arrive, and nothing runs short: buffers are sized by bounds that are proved ([`Room`]) or derived
 //! ([`Grammar::build`]). Who wants to lend buffers of another size, or has words of unknown origin, calls the entry points in [`words`].
 
 #![deny(missing_docs, unsafe_code)]
 
+mod commands;
 mod errors;
 mod formula;
 mod grammar;
@@ -64,6 +67,7 @@ mod tables;
 #[allow(unsafe_code)]
 pub mod words;
 
+pub use commands::{Command, GrammarBuilder};
 pub use errors::{BuildError, ParseError, ReadError, RefusedRules, VerifyError, WriteError};
 pub use formula::{Formula, Preorder, Subtree, Tree};
 pub use grammar::Grammar;

@@ -15,6 +15,9 @@ pub const MOST_EDGES: usize = 16_384;
 /// The reduces of an edge.
 pub const MOST_REDUCES: usize = 5;
 
+/// The offset of a reduce.
+pub const MOST_OFFSET: u32 = 255;
+
 /// The tokens of a statement, its typecode among them.
 pub const MOST_TOKENS: usize = 32_769;
 
@@ -23,3 +26,12 @@ pub const ITEM_WIDTH: usize = 2;
 
 /// The words of an edge.
 pub const ROW_WIDTH: usize = 16;
+
+/// The edges that a garden path may take up.
+pub const MOST_TAKEN: usize = 16_384;
+
+/// The clones of a garden path that can have begun and not be done, each of which has a frame.
+pub const MOST_CLONES: usize = MOST_TAKEN + 1;
+
+/// The words of such a frame.
+pub const FRAME_WIDTH: usize = 16;

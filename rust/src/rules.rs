@@ -137,6 +137,6 @@ fn index(rule: RuleNo) -> Option<usize> {
 
 /// A build without any room looks at the rules and at nothing else.
 fn rules_are_bad(provable: Symbol, logic: Symbol, rules: &[u32]) -> bool {
-    let built = words::build(provable.word(), logic.word(), rules, &mut [], &mut []);
+    let built = words::build(provable.word(), logic.word(), rules, &[], &mut [], &mut [], &mut []);
     BuildError::of(built) == Some(BuildError::BadRules)
 }

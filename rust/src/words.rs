@@ -81,10 +81,14 @@ mod c {
             logic: u32,
             rules: *const u32,
             rules_length: usize,
+            commands: *const u32,
+            commands_length: usize,
             nodes: *mut u32,
             nodes_length: usize,
             edges: *mut u32,
             edges_length: usize,
+            frames: *mut u32,
+            frames_length: usize,
         ) -> Built;
         pub fn jiehkavon_parse(
             provable: u32,
@@ -144,19 +148,37 @@ pub fn body(provable: u32, logic: u32, rules: &[u32], rule: u32) -> Stretch {
     unsafe { c::jiehkavon_body(provable, logic, rules.as_ptr(), rules.len(), rule) }
 }
 
-/// The tree of the rules, in two slices of any length and content.
-pub fn build(provable: u32, logic: u32, rules: &[u32], nodes: &mut [u32], edges: &mut [u32]) -> Built {
-    // SAFETY: the slices are there for the call, and the two lent for writing are apart from each other and from the rules.
+/// The tree of the rules and of the commands that are run after them, in two slices of any length and content.
+///
+/// The commands are run in the order given. The word 2 asks for the type conversions. A garden path is the word 1, the number of items of its
+/// prefix, that of its shadow, and the items of both, two words each as in a rule. Where no command asks for the conversions, they come last.
+///
+/// A garden path may need frames, of [`FRAME_WIDTH`](crate::limits::FRAME_WIDTH) words each, and
+/// [`MOST_CLONES`](crate::limits::MOST_CLONES) are always enough; no other command needs any. They are zero afterwards.
+pub fn build(
+    provable: u32,
+    logic: u32,
+    rules: &[u32],
+    commands: &[u32],
+    nodes: &mut [u32],
+    edges: &mut [u32],
+    frames: &mut [u32],
+) -> Built {
+    // SAFETY: the slices are there for the call, and the three lent for writing are apart from each other and from all that is read.
     unsafe {
         c::jiehkavon_build(
             provable,
             logic,
             rules.as_ptr(),
             rules.len(),
+            commands.as_ptr(),
+            commands.len(),
             nodes.as_mut_ptr(),
             nodes.len(),
             edges.as_mut_ptr(),
             edges.len(),
+            frames.as_mut_ptr(),
+            frames.len(),
         )
     }
 }

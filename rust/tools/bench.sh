@@ -1,5 +1,5 @@
 #!/usr/bin/env bash
-# The benchmark, whose tables are in docs/BENCHMARKS.md: set S, set.mm, and how time grows. With JIEHKAVON_ORACLE set to the line driver around
+# The benchmark, whose tables are in docs/BENCHMARKS.md: set S, set.mm without its garden paths and with them, and how time grows. With JIEHKAVON_ORACLE set to the line driver around
 # the published Rust, built for x86-64 like the library, that is timed as well; more arguments go to the program. Where the processor is
 # another one, everything runs under the same emulator, told to have no fast `rep stos`: it emulates that byte by byte, and clearing memory
 # would be most of what is measured.
@@ -21,4 +21,5 @@ oracle=()
 if [ -n "${JIEHKAVON_ORACLE:-}" ]; then
     oracle=(--oracle "published=$emulator$JIEHKAVON_ORACLE")
 fi
-exec "$(dirname "$0")/../cargo" run --release -q -p tools --bin bench -- "${oracle[@]}" --database "$database" "$@"
+here=$(CDPATH='' cd -- "$(dirname -- "${BASH_SOURCE[0]}")" && pwd)
+exec "$here/../cargo" run --release -q -p tools --bin bench -- "${oracle[@]}" --database "$database" --paths "$here/paths" "$@"

@@ -21,9 +21,10 @@ pub stretch-determined : (κs : _) (args : _) (r₁ r₂ : _) (x₁ x₂ : _) �
     → stretchOf r₁ ≡ stretchOf r₂
 stretch-determined κs args r₁ r₂ x₁ x₂ m n = determined m n
 
--- the third and the fourth parameter are the two tables
+-- the fourth, fifth and sixth parameter are the two tables and the frames
 pub build-determined : (κs : _) (args : _) (r₁ r₂ : _) (x₁ x₂ : _) → build.Post κs args r₁ x₁ → build.Post κs args r₂ x₂
-    → builtIs r₁ (now (x₁ .1 .1 .0)) (now (x₁ .1 .1 .1 .0)) ≡ builtIs r₂ (now (x₂ .1 .1 .0)) (now (x₂ .1 .1 .1 .0))
+    → builtIs r₁ (now (x₁ .1 .1 .1 .0)) (now (x₁ .1 .1 .1 .1 .0)) (now (x₁ .1 .1 .1 .1 .1 .0))
+    ≡ builtIs r₂ (now (x₂ .1 .1 .1 .0)) (now (x₂ .1 .1 .1 .1 .0)) (now (x₂ .1 .1 .1 .1 .1 .0))
 build-determined κs args r₁ r₂ x₁ x₂ m n = determined m n
 
 -- the fifth is the work slice

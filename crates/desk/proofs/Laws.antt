@@ -7,7 +7,7 @@ use Prim.Native.Nat.{ℕ, zero, suc, _*_, _-_, _/_, _≤_}
 use native.Mathlib.Nat.{sub-zero}
 use native.Mathlib.Omega.{arith}
 use lib.ListN.{length, getD, drop, take}
-use Rattle.words.specs.Limits.{mostNodes, mostEdges, rowWidth}
+use Rattle.words.specs.Limits.{mostNodes, mostEdges, rowWidth, mostTaken}
 use Rattle.words.specs.Lent.{zeros, padded, clearedFrom}
 use Rattle.words.specs.Outcome.{Res, lesser, demand, firstFault}
 use Rattle.words.specs.laws.Faults.{met, unmet}
@@ -20,14 +20,17 @@ use Rattle.walk.specs.Walk as passes
 use Rattle.walk.specs.Code.{Answers}
 use Rattle.walk.specs.declared.Walked as walked
 use Rattle.words.specs.Numbers.{accepted, badRules, misfit, number, Fault, faultNumber}
-use Rattle.tree.specs.Grow.{Grown, Room, grow}
+use Rattle.tree.specs.Grow.{Grown, Room}
 use Rattle.tree.specs.Code.{roomOf, faultOf, Holding, Grows}
 use Rattle.tree.specs.declared.Fault as why
 use Rattle.tree.specs.declared.Grew.{Grew}
 use Rattle.tree.specs.declared.Grew.the-variants.{On, Refused}
 use Rattle.tree.specs.declared.Counts.{Counts}
 use Rattle.tree.specs.declared.Room as lent
-use Rattle.desk.specs.Entry.{Built, notBuilt, buildRoom, builtBy, buildAfter, buildGives, Asked, Lent, parsed, theTables, parseDemands, walkAfter, walkOf, verifyDemands, verifyGives}
+use Rattle.garden.specs.Garden.{theCommands}
+use Rattle.garden.specs.Garden as garden
+use Rattle.garden.specs.Code.{boundsOf}
+use Rattle.desk.specs.Entry.{Built, notBuilt, buildRoom, gardenBounds, builtBy, buildAfter, buildGives, Asked, Lent, parsed, theTables, parseDemands, walkAfter, walkOf, verifyDemands, verifyGives}
 use Rattle.desk.specs.Code.{builtIs, Raised, parsedIs, Tried}
 use Rattle.desk.specs.declared.Answer.{Answer}
 use Rattle.desk.specs.declared.Made.{Made}
@@ -54,9 +57,9 @@ module _ (provable logic : ℕ) (rules tokens list : List ℕ) (work : ℕ) wher
 cleared-all : (ws : List ℕ) (n : ℕ) → length ws ≡ n → clearedFrom ws 0 ≡ zeros n
 cleared-all ws n e = rw (e, sub-zero n)
 
-pub raised-no : (b : Built) (k : ℕ) (ns es : List ℕ) (nodes edges : ℕ) → b ≡ notBuilt k nodes edges → length ns ≡ nodes → length es ≡ edges
-    → Raised b (record { number = k; nodes = 0; edges = 0 }) ns es
-raised-no b k ns es nodes edges h d e = rw h (record {
+pub raised-no : (b : Built) (k : ℕ) (ns es : List ℕ) (nodes edges frames : ℕ) → b ≡ notBuilt k nodes edges frames → length ns ≡ nodes → length es ≡ edges
+    → Raised b (record { number = k; nodes = 0; edges = 0 }) ns es frames
+raised-no b k ns es nodes edges frames h d e = rw h (record {
   number = refl;
   node-count = refl;
   edge-count = refl;
@@ -64,6 +67,7 @@ raised-no b k ns es nodes edges h d e = rw h (record {
   edges-in = omega arith;
   node-words = cleared-all ns nodes d;
   edge-words = cleared-all es edges e;
+  frame-words = refl;
 })
 
 -- the room that is asked for lies within the slices and the limits
@@ -86,11 +90,11 @@ room-fits z nodes edges h =
       edges-few = omega (arith, b, e .1);
     }
 
-pub raised-ok : (b : Built) (z : lent.Room) (x : Res Fault Grown) (c : Counts) (ns es : List ℕ) (nodes edges : ℕ) → b ≡ builtBy nodes edges x
+pub raised-ok : (b : Built) (z : lent.Room) (x : Res Fault Grown) (c : Counts) (ns es : List ℕ) (nodes edges frames : ℕ) → b ≡ builtBy nodes edges frames x
     → length ns ≡ nodes → length es ≡ edges → z .nodes ≤ nodes → rowWidth * z .edges ≤ edges → Holding z x c ns es
-    → Raised b (record { number = accepted; nodes = c .nodes; edges = c .edges }) ns es
+    → Raised b (record { number = accepted; nodes = c .nodes; edges = c .edges }) ns es frames
 unfolding builtBy
-raised-ok b z x c ns es nodes edges h d e p q s = rw (h, s .grows) (record {
+raised-ok b z x c ns es nodes edges frames h d e p q s = rw (h, s .grows) (record {
   number = refl;
   node-count = s .node-count;
   edge-count = s .edge-count;
@@ -98,35 +102,39 @@ raised-ok b z x c ns es nodes edges h d e p q s = rw (h, s .grows) (record {
   edges-in = omega (arith, s .edges-in);
   node-words = rw (s .nodes, d);
   edge-words = rw (s .edges, e);
+  frame-words = refl;
 })
 
-module _ (provable logic : ℕ) (rules : List ℕ) (nodes edges : ℕ) where
-  pub build-bad : rulesGood provable logic rules ≡ false → buildGives provable logic rules nodes edges ≡ notBuilt badRules nodes edges
+module _ (provable logic : ℕ) (rules commands : List ℕ) (nodes edges frames : ℕ) where
+  pub build-bad : rulesGood provable logic rules ≡ false → buildGives provable logic rules commands nodes edges frames ≡ notBuilt badRules nodes edges frames
   unfolding buildGives buildAfter
-  build-bad h = ap (buildAfter rules nodes edges) (unmet h badRules [])
+  build-bad h = ap (buildAfter rules commands nodes edges frames) (unmet h badRules [])
 
-  build-grown : rulesGood provable logic rules ≡ true → buildGives provable logic rules nodes edges ≡ builtBy nodes edges (grow (buildRoom nodes edges) (theRules rules))
+  build-grown : rulesGood provable logic rules ≡ true → buildGives provable logic rules commands nodes edges frames
+      ≡ builtBy nodes edges frames (garden.build (gardenBounds nodes edges frames) (theRules rules) (theCommands commands))
   unfolding buildGives buildAfter
-  build-grown h = ap (buildAfter rules nodes edges) (met h badRules [] ∙ none-fails)
+  build-grown h = ap (buildAfter rules commands nodes edges frames) (met h badRules [] ∙ none-fails)
 
   -- what the growing left in the slices, by what it answered
   module _ (h : rulesGood provable logic rules ≡ true) (z : lent.Room) (e : roomOf z ≡ buildRoom nodes edges) (r : Grew) (ns es : List ℕ)
-      (d : length ns ≡ nodes) (f : length es ≡ edges) (m : Grows z (grow (roomOf z) (theRules rules)) r ns es) where
-    grown : buildGives provable logic rules nodes edges ≡ builtBy nodes edges (grow (roomOf z) (theRules rules))
-    grown = build-grown h ∙ ap (λ (x : Room). builtBy nodes edges (grow x (theRules rules))) (sym e)
+      (d : length ns ≡ nodes) (f : length es ≡ edges) (m : Grows z (garden.build (boundsOf z frames) (theRules rules) (theCommands commands)) r ns es) where
+    grown : buildGives provable logic rules commands nodes edges frames ≡ builtBy nodes edges frames (garden.build (boundsOf z frames) (theRules rules) (theCommands commands))
+    grown = build-grown h
+        ∙ ap (λ (x : Room). builtBy nodes edges frames (garden.build (record { room = x; frames = frames / rowWidth; rows = mostTaken }) (theRules rules) (theCommands commands))) (sym e)
 
-    pub raised-on : (c : Counts) → r ≡ On c → Raised (buildGives provable logic rules nodes edges) (record { number = accepted; nodes = c .nodes; edges = c .edges }) ns es
+    pub raised-on : (c : Counts) → r ≡ On c
+        → Raised (buildGives provable logic rules commands nodes edges frames) (record { number = accepted; nodes = c .nodes; edges = c .edges }) ns es frames
     raised-on c a =
-        let s = subst (λ x. Grows z (grow (roomOf z) (theRules rules)) x ns es) a m in
+        let s = subst (λ x. Grows z (garden.build (boundsOf z frames) (theRules rules) (theCommands commands)) x ns es) a m in
         let k = room-fits z nodes edges e in
-        raised-ok _ z _ c ns es nodes edges grown d f (k .nodes-in) (k .edges-in) s
+        raised-ok _ z _ c ns es nodes edges frames grown d f (k .nodes-in) (k .edges-in) s
 
     pub raised-refused : (y : why.Fault) (k : ℕ) → r ≡ Refused y → k ≡ faultNumber (faultOf y)
-        → Raised (buildGives provable logic rules nodes edges) (record { number = k; nodes = 0; edges = 0 }) ns es
+        → Raised (buildGives provable logic rules commands nodes edges frames) (record { number = k; nodes = 0; edges = 0 }) ns es frames
     unfolding builtBy
     raised-refused y k a g =
-        let s = subst (λ x. Grows z (grow (roomOf z) (theRules rules)) x ns es) a m in
-        raised-no _ k ns es nodes edges (grown ∙ rw (s, g)) d f
+        let s = subst (λ x. Grows z (garden.build (boundsOf z frames) (theRules rules) (theCommands commands)) x ns es) a m in
+        raised-no _ k ns es nodes edges frames (grown ∙ rw (s, g)) d f
 
 -- counts of what stands there are small
 pub counts-small : (z : lent.Room) (x : Res Fault Grown) (c : Counts) (r : Grew) (ns es : List ℕ) → z .nodes ≤ mostNodes → z .edges ≤ mostEdges → Grows z x r ns es → r ≡ On c
@@ -135,14 +143,15 @@ counts-small z x c r ns es h k s a =
     let t = subst (λ y. Grows z x y ns es) a s in
     (omega (arith, t .nodes-in), omega (arith, t .edges-in))
 
-pub built : (b : Built) (m : Made) (ns es ns′ es′ : List ℕ) → Raised b m ns es → ns′ ≡ clearedFrom ns (m .nodes) → es′ ≡ clearedFrom es (rowWidth * m .edges)
-    → builtIs m ns′ es′ ≡ b
-built b m ns es ns′ es′ r d e = λ i. record {
+pub built : (b : Built) (m : Made) (ns es ns′ es′ fs′ : List ℕ) (frames : ℕ) → Raised b m ns es frames → ns′ ≡ clearedFrom ns (m .nodes)
+    → es′ ≡ clearedFrom es (rowWidth * m .edges) → fs′ ≡ zeros frames → builtIs m ns′ es′ fs′ ≡ b
+built b m ns es ns′ es′ fs′ frames r d e f = λ i. record {
   number = r .number i;
   nodes = r .node-count i;
   edges = r .edge-count i;
   node-words = (d ∙ r .node-words) i;
   edge-words = (e ∙ r .edge-words) i;
+  frame-words = (f ∙ r .frame-words) i;
 }
 
 -- ---- a parse

@@ -4,14 +4,16 @@ use mathlib.Core.List.{List, [], _∷_, _++_}
 use Prim.Native.Nat.{ℕ, zero, suc, _+_, _*_, _/_}
 use lib.Dec.{eqb, leb, ltb}
 use lib.ListN.{length, getD, drop}
-use Rattle.words.specs.Limits.{mostRules, mostNodes, mostEdges, rowWidth, mostTokens}
+use Rattle.words.specs.Limits.{mostRules, mostNodes, mostEdges, rowWidth, mostTokens, mostTaken}
 use Rattle.words.specs.Lent.{zeros, padded}
 use Rattle.words.specs.Numbers.{accepted, tooFewTokens, badTables, tooManyTokens, badRules, misfit, noEntry, number, Fault, faultNumber, numbering}
 use Rattle.words.specs.Outcome.{Res, ok, no, pick, lesser, Demand, demand, firstFault}
 use Rattle.rules.specs.Rules.{Rule, theRules, rulesGood, Stretch, noStretch, stretchFrom, reading}
 use Rattle.rows.specs.Rows.{edgesOf, edgeWords, tablesGood, tabling}
-use Rattle.tree.specs.Grow.{Grown, grow, growing}
+use Rattle.tree.specs.Grow.{Grown}
 use Rattle.tree.specs.Grow as tree
+use Rattle.garden.specs.Garden.{Bounds, theCommands, gardening}
+use Rattle.garden.specs.Garden as garden
 use Rattle.formula.specs.Check.{check}
 use Rattle.formula.specs.Meaning.{Tree}
 use Rattle.walk.specs.Walk.{Tables, tablesOf, Walked, wantedOf, walk, walking}
@@ -33,32 +35,42 @@ pub record Built : Type 0 where
   pub edges : ℕ
   pub node-words : List ℕ
   pub edge-words : List ℕ
+  pub frame-words : List ℕ
 
--- refused: counts 0, and both tables zero
-abbrev pub notBuilt : ℕ → ℕ → ℕ → Built
-notBuilt k nodes edges = record { number = k; nodes = 0; edges = 0; node-words = zeros nodes; edge-words = zeros edges }
+-- refused: counts 0, and zeros in all three slices
+abbrev pub notBuilt : ℕ → ℕ → ℕ → ℕ → Built
+notBuilt k nodes edges frames =
+    record { number = k; nodes = 0; edges = 0; node-words = zeros nodes; edge-words = zeros edges; frame-words = zeros frames }
 
 -- the whole rows of the two slices, or the limits, whichever is smaller
 abbrev pub buildRoom : ℕ → ℕ → tree.Room
 buildRoom nodes edges = record { nodes = lesser nodes mostNodes; edges = lesser (edges / rowWidth) mostEdges }
 
-unfoldable pub builtBy : ℕ → ℕ → Res Fault Grown → Built
-builtBy nodes edges (no y) = notBuilt (faultNumber y) nodes edges
-builtBy nodes edges (ok g) = record {
+-- a frame for clones has as many words as an edge
+abbrev pub gardenBounds : ℕ → ℕ → ℕ → Bounds
+gardenBounds nodes edges frames = record { room = buildRoom nodes edges; frames = frames / rowWidth; rows = mostTaken }
+
+-- frames are zero whatever the answer
+unfoldable pub builtBy : ℕ → ℕ → ℕ → Res Fault Grown → Built
+builtBy nodes edges frames (no y) = notBuilt (faultNumber y) nodes edges frames
+builtBy nodes edges frames (ok g) = record {
   number = accepted;
   nodes = length (g .nodes);
   edges = length (g .edges);
   node-words = padded (g .nodes) nodes;
   edge-words = padded (edgeWords (g .edges)) edges;
+  frame-words = zeros frames;
 }
 
-unfoldable pub buildAfter : List ℕ → ℕ → ℕ → ℕ → Built
-buildAfter rules nodes edges zero = builtBy nodes edges (grow (buildRoom nodes edges) (theRules rules))
-buildAfter rules nodes edges (suc k) = notBuilt (suc k) nodes edges
+unfoldable pub buildAfter : List ℕ → List ℕ → ℕ → ℕ → ℕ → ℕ → Built
+buildAfter rules commands nodes edges frames zero =
+    builtBy nodes edges frames (garden.build (gardenBounds nodes edges frames) (theRules rules) (theCommands commands))
+buildAfter rules commands nodes edges frames (suc k) = notBuilt (suc k) nodes edges frames
 
--- `nodes` and `edges` are the lengths of the slices lent
-unfoldable pub buildGives : ℕ → ℕ → List ℕ → ℕ → ℕ → Built
-buildGives provable logic rules nodes edges = buildAfter rules nodes edges (firstFault (demand (rulesGood provable logic rules) badRules ∷ []))
+-- `nodes`, `edges` and `frames` are the lengths of the slices lent
+unfoldable pub buildGives : ℕ → ℕ → List ℕ → List ℕ → ℕ → ℕ → ℕ → Built
+buildGives provable logic rules commands nodes edges frames =
+    buildAfter rules commands nodes edges frames (firstFault (demand (rulesGood provable logic rules) badRules ∷ []))
 
 -- ---- `parse`
 
@@ -160,5 +172,5 @@ Means R provable logic [] l = ⊥
 Means R provable logic (t ∷ xs) l = Tree R (wantedOf provable logic t) xs l
 
 unfoldable pub entering : Unit {0}
-unfolding firstFault numbering reading tabling growing walking bodyGives builtBy buildAfter buildGives parsed walkAfter walkOf parseGives verifyGives
+unfolding firstFault numbering reading tabling gardening walking bodyGives builtBy buildAfter buildGives parsed walkAfter walkOf parseGives verifyGives
 entering = tt

@@ -64,14 +64,25 @@ fn fault_number(f: tree::Fault) -> u32
         tree::Fault::NoNode => words::NO_NODE,
         tree::Fault::NoEdge => words::NO_EDGE,
         tree::Fault::SixthReduce => words::SIXTH_REDUCE,
+        tree::Fault::FarOffset => words::FAR_OFFSET,
         tree::Fault::BadCopy => words::BAD_COPY,
+        tree::Fault::ManyRows => words::MANY_ROWS,
+        tree::Fault::NoClone => words::NO_FRAME,
     }
 }
 
-// The tables at the front of the two slices: what stands after them is not said.
-fn raise(codes: rules::Codes, rules: &[u32], nodes: &mut [u32], edges: &mut [u32]) -> Made
-    ensures { λ r. ⌜ Raised (buildGives (codes .provable .0) (codes .logic .0) (now (rules .entry)) (length (now (nodes .entry))) (length (now (edges .entry))))
-        r (now (nodes .exit)) (now (edges .exit)) ⌝ }
+// The tables at the front of the two slices: what stands after them is not said, nor what stands in the frames.
+fn raise(
+    codes: rules::Codes,
+    rules: &[u32],
+    commands: &[u32],
+    nodes: &mut [u32],
+    edges: &mut [u32],
+    frames: &mut [u32],
+) -> Made
+    ensures { λ r. ⌜ Raised (buildGives (codes .provable .0) (codes .logic .0) (now (rules .entry)) (now (commands .entry))
+        (length (now (nodes .entry))) (length (now (edges .entry))) (length (now (frames .entry))))
+        r (now (nodes .exit)) (now (edges .exit)) (length (now (frames .entry))) ⌝ }
 {
     if !rules::rules_good(rules, codes) {
         return Made {
@@ -81,7 +92,7 @@ fn raise(codes: rules::Codes, rules: &[u32], nodes: &mut [u32], edges: &mut [u32
         };
     }
     let room = build_room(nodes.len(), edges.len());
-    match tree::grow(rules, room, nodes, edges) {
+    match garden::build(rules, commands, room, nodes, edges, frames) {
         tree::Grew::On(c) => Made {
             number: words::ACCEPTED,
             nodes: c.nodes as u32,
@@ -95,16 +106,26 @@ fn raise(codes: rules::Codes, rules: &[u32], nodes: &mut [u32], edges: &mut [u32
     }
 }
 
-// The tree of the rules, in two slices of any length and content. A refused build leaves both zero, a good one zeros past its rows.
-pub fn build(codes: rules::Codes, rules: &[u32], nodes: &mut [u32], edges: &mut [u32]) -> Made
-    ensures { λ r. ⌜ builtIs r (now (nodes .exit)) (now (edges .exit))
-        ≡ buildGives (codes .provable .0) (codes .logic .0) (now (rules .entry)) (length (now (nodes .entry))) (length (now (edges .entry))) ⌝ }
+// The tree of the rules and commands, in two slices of any length and content, with a third of frames. A refused build leaves all three
+// zero, a good one zeros past its rows and in the frames.
+pub fn build(
+    codes: rules::Codes,
+    rules: &[u32],
+    commands: &[u32],
+    nodes: &mut [u32],
+    edges: &mut [u32],
+    frames: &mut [u32],
+) -> Made
+    ensures { λ r. ⌜ builtIs r (now (nodes .exit)) (now (edges .exit)) (now (frames .exit))
+        ≡ buildGives (codes .provable .0) (codes .logic .0) (now (rules .entry)) (now (commands .entry))
+        (length (now (nodes .entry))) (length (now (edges .entry))) (length (now (frames .entry))) ⌝ }
 {
-    let m = raise(codes, rules, nodes, edges);
+    let m = raise(codes, rules, commands, nodes, edges, frames);
     let n = m.nodes as usize;
     let e = words::ROW_WIDTH * (m.edges as usize);
     words::clear_from(nodes, n);
     words::clear_from(edges, e);
+    words::clear(frames); // no clone is under way
     m
 }
 

@@ -15,9 +15,10 @@ use Rattle.desk_c.proofs.jiehkavon_verify.Reads as verify
 pub body-determined : (κs : _) (args : _) (r₁ r₂ : _) (x₁ x₂ : _) → body.Post κs args r₁ x₁ → body.Post κs args r₂ x₂ → stretchOf r₁ ≡ stretchOf r₂
 body-determined κs args r₁ r₂ x₁ x₂ m n = determined m n
 
--- the fourth and the fifth parameter are the two tables
+-- the fifth, sixth and seventh parameter are the two tables and the frames
 pub build-determined : (κs : _) (args : _) (r₁ r₂ : _) (x₁ x₂ : _) → build.Post κs args r₁ x₁ → build.Post κs args r₂ x₂
-    → builtIs r₁ (now (x₁ .1 .1 .1 .0)) (now (x₁ .1 .1 .1 .1 .0)) ≡ builtIs r₂ (now (x₂ .1 .1 .1 .0)) (now (x₂ .1 .1 .1 .1 .0))
+    → builtIs r₁ (now (x₁ .1 .1 .1 .1 .0)) (now (x₁ .1 .1 .1 .1 .1 .0)) (now (x₁ .1 .1 .1 .1 .1 .1 .0))
+    ≡ builtIs r₂ (now (x₂ .1 .1 .1 .1 .0)) (now (x₂ .1 .1 .1 .1 .1 .0)) (now (x₂ .1 .1 .1 .1 .1 .1 .0))
 build-determined κs args r₁ r₂ x₁ x₂ m n = determined m n
 
 -- the sixth is the work slice

@@ -30,20 +30,23 @@ pub extern "C" fn jiehkavon_body(
     desk::body_stretch(codes, rules, words::RuleNo(rule))
 }
 
-// The tree of the rules.
+// The tree of the rules and commands.
 #[no_mangle]
 pub extern "C" fn jiehkavon_build(
     provable: u32,
     logic: u32,
     rules: &[u32],
+    commands: &[u32],
     nodes: &mut [u32],
     edges: &mut [u32],
+    frames: &mut [u32],
 ) -> desk::Made
-    ensures { λ r. ⌜ builtIs r (now (nodes .exit)) (now (edges .exit))
-        ≡ buildGives provable logic (now (rules .entry)) (length (now (nodes .entry))) (length (now (edges .entry))) ⌝ }
+    ensures { λ r. ⌜ builtIs r (now (nodes .exit)) (now (edges .exit)) (now (frames .exit))
+        ≡ buildGives provable logic (now (rules .entry)) (now (commands .entry))
+        (length (now (nodes .entry))) (length (now (edges .entry))) (length (now (frames .entry))) ⌝ }
 {
     let codes = codes_of(provable, logic);
-    desk::build(codes, rules, nodes, edges)
+    desk::build(codes, rules, commands, nodes, edges, frames)
 }
 
 // The check alone.

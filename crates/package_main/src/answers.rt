@@ -103,10 +103,19 @@ fn show_tree(m: desk::Made) {
     sentence::end_line(m.number);
 }
 
+// A package has no commands, so no frame is needed.
 fn tree(codes: rules::Codes, rules: &[u32], all: &[u32]) {
     let mut nodes = [0u32; text::MOST];
     let mut edges = [0u32; text::MOST];
-    let m = desk::build(codes, rules, &mut nodes, &mut edges);
+    let mut frames = [0u32; 1];
+    let m = desk::build(
+        codes,
+        rules,
+        &rules[0..0],
+        &mut nodes,
+        &mut edges,
+        &mut frames,
+    );
     show_tree(m);
     if m.number != words::ACCEPTED {
         return;

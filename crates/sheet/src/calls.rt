@@ -3,21 +3,25 @@ use crate::show;
 use crate::tables;
 
 // The tables that are built are those of the sheet.
-fn build(t: &[u32], words: &[u32]) -> bool {
+fn build(t: &[u32], commands: &[u32]) -> bool {
     let mut n = [0u32; text::MOST];
     let mut e = [0u32; text::MOST];
+    let mut f = [0u32; text::MOST];
     let nodes = show::lent(&mut n, tables::item(t, tables::ASKED, 0));
     let edges = show::lent(&mut e, tables::item(t, tables::ASKED, 1));
+    let frames = show::lent(&mut f, tables::item(t, tables::ASKED, 2));
     let m = desk::build(
         tables::codes(t),
         tables::held(t, tables::RULES),
+        commands,
         nodes,
         edges,
+        frames,
     );
     show::told(t, m.number, m.nodes, m.edges, 0)
         & show::left(nodes, tables::held(t, tables::NODES))
         & show::left(edges, tables::held(t, tables::EDGES))
-        & (words.len() == 0)
+        & show::left(frames, tables::held(t, tables::NOTHING))
 }
 
 fn parse(t: &[u32], words: &[u32]) -> bool {

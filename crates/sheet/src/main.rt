@@ -24,7 +24,7 @@ const OTHER: u32 = 3;
 
 const UNREAD: u32 = 7;
 
-// A row's call, with the list or body of its second field.
+// A row's call, with the commands, the list or the body of its second field.
 fn compare(name: u8, t: &[u32], field: &[u8]) -> u32 {
     let mut words = [0u32; text::MOST];
     if !text::read(field, &mut words) {

@@ -64,7 +64,7 @@ pub fn start(name: u8) -> usize {
     }
 }
 
-// A build asks by two numbers, a stretch by one.
+// A build asks by three numbers, a stretch by one.
 pub fn end(name: u8) -> usize {
     match name {
         b'c' => LENT,
@@ -72,7 +72,7 @@ pub fn end(name: u8) -> usize {
         b'r' => NODES,
         b'n' => EDGES,
         b'e' => ASKED,
-        b'b' => ASKED + 4,
+        b'b' => ASKED + 5,
         b's' => ASKED + 3,
         _ => NOTHING,
     }

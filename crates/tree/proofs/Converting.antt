@@ -97,11 +97,11 @@ module _ (z : lent.Room) (c : Counts) (ns es : List ℕ) (r : Rowed z c es) (rul
 -- ---- the rows that stood when the copying began
 
 -- after a row is copied the rows before it still stand
-record Extends (g g′ : Grown) : Type 0 where
-  more : List Edge
-  extended : g′ .edges ≡ g .edges ++ more
+pub record Extends (g g′ : Grown) : Type 0 where
+  pub more : List Edge
+  pub extended : g′ .edges ≡ g .edges ++ more
 
-edge-extends : (z : Room) (g g′ : Grown) (e : Edge) → ok g′ ≡ addEdge z g e → Extends g g′
+pub edge-extends : (z : Room) (g g′ : Grown) (e : Edge) → ok g′ ≡ addEdge z g e → Extends g g′
 unfolding addEdge when
 edge-extends z g g′ e h = by (ltb (length (g .edges)) (z .edges)) h
   where
@@ -197,7 +197,7 @@ module _ (z : lent.Room) (rule n m : ℕ) (c₀ : Counts) (es₀ : List ℕ) (c 
 -- ---- one node
 
 module _ (z : lent.Room) (c : Counts) (ns es : List ℕ) (r : Rowed z c es) (wide : c .nodes ≤ length ns) where
-  apart-is : (n m : ℕ) → n < c .nodes → m < c .nodes → apart (grownOf c ns es) n m ≡ not (eqb n m) && eqb (getD ns n 0) 0 && eqb (getD ns m 0) 0
+  pub apart-is : (n m : ℕ) → n < c .nodes → m < c .nodes → apart (grownOf c ns es) n m ≡ not (eqb n m) && eqb (getD ns n 0) 0 && eqb (getD ns m 0) 0
   unfolding apart branchAt
   apart-is n m h k = rw (getD-take (c .nodes) ns n 0 h, getD-take (c .nodes) ns m 0 k)
 

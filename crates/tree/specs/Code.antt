@@ -7,7 +7,7 @@ use lib.Dec.{eqb}
 use lib.ListN.{length, take}
 use Rattle.words.specs.Limits.{mostNodes, rowWidth, mostReduces}
 use Rattle.words.specs.Outcome.{Res, ok, no, bind, when, pick}
-use Rattle.words.specs.Numbers.{Fault, collides, noNode, noEdge, sixthReduce, badCopy}
+use Rattle.words.specs.Numbers.{Fault, collides, noNode, noEdge, sixthReduce, farOffset, badCopy, manyRows, noClone}
 use Rattle.rules.specs.Rules.{Item, ruleOf, source}
 use Rattle.rules.specs.laws.Every.{All}
 use Rattle.rows.specs.Rows.{Reduce, Edge, edgeOf, edgesOf, edgeWords, find}
@@ -33,7 +33,10 @@ faultOf code.Collides = collides
 faultOf code.NoNode = noNode
 faultOf code.NoEdge = noEdge
 faultOf code.SixthReduce = sixthReduce
+faultOf code.FarOffset = farOffset
 faultOf code.BadCopy = badCopy
+faultOf code.ManyRows = manyRows
+faultOf code.NoClone = noClone
 
 -- the room lies within the two slices, and node numbers fit
 pub record Within (z : lent.Room) (ns es : List ℕ) : Type 0 where

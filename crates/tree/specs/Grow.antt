@@ -133,9 +133,12 @@ abbrev pub rootAlone : Grown
 rootAlone = record { nodes = 0 ∷ []; edges = [] }
 
 -- node 0 needs room too
+unfoldable pub plant : Room → List Rule → Res Fault Grown
+plant z R = bind (when (ltb 0 (z .nodes)) noNode rootAlone) λ g. placeRules z 1 R g
+
 unfoldable pub grow : Room → List Rule → Res Fault Grown
-grow z R = bind (when (ltb 0 (z .nodes)) noNode rootAlone) λ g. bind (placeRules z 1 R g) λ g. convertAll z 1 R g
+grow z R = bind (plant z R) λ g. convertAll z 1 R g
 
 unfoldable pub growing : Unit {0}
-unfolding source keyed find withReduce bind when faultNumber kind sym branchAt addEdge addNode placeLast placeInner place placeRule placeRules addConverted offsetOn copyRow copyBranches apart convertTo convertAt convertNodes convert convertAll grow
+unfolding source keyed find withReduce bind when faultNumber kind sym branchAt addEdge addNode placeLast placeInner place placeRule placeRules addConverted offsetOn copyRow copyBranches apart convertTo convertAt convertNodes convert convertAll plant grow
 growing = tt

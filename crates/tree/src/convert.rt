@@ -119,7 +119,7 @@ fn copy_branches(
 }
 
 // Whether these are two different branches.
-fn apart(nodes: &[u32], n: words::NodeNo, m: words::NodeNo) -> bool
+pub fn apart(nodes: &[u32], n: words::NodeNo, m: words::NodeNo) -> bool
     requires { ⌜ (n .0 < length (now nodes)) × (m .0 < length (now nodes)) ⌝ }
     ensures { λ r. ⌜ r ≡ not (eqb (n .0) (m .0)) && eqb (getD (now (nodes .entry)) (n .0) 0) 0 && eqb (getD (now (nodes .entry)) (m .0) 0) 0 ⌝ }
 {

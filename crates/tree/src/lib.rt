@@ -1,14 +1,14 @@
-// Growing the tree: rules in order, then conversions in order.
-mod convert;
+// Growing the tree: rules in order; conversions in order stand in `convert`.
+pub mod convert;
 mod place;
-mod table;
+pub mod table;
 
 ghost use mathlib.Core.Path.{_≡_};
 ghost use mathlib.Core.Bool.{true};
 ghost use Rattle.rules.specs.Rules.{theRules};
 ghost use Rattle.rules.specs.Code.{someRules};
-ghost use Rattle.tree.specs.Grow.{grow};
-ghost use Rattle.tree.specs.Code.{roomOf, Within, Grows};
+ghost use Rattle.tree.specs.Grow.{plant};
+ghost use Rattle.tree.specs.Code.{roomOf, Within, Meets};
 
 // How many nodes and edges there is room for.
 pub struct Room {
@@ -28,7 +28,10 @@ pub enum Fault {
     NoNode,
     NoEdge,
     SixthReduce,
+    FarOffset,
     BadCopy,
+    ManyRows,
+    NoClone,
 }
 
 // The counts after a step, or its refusal.
@@ -37,19 +40,15 @@ pub enum Grew {
     Refused(Fault),
 }
 
-// The tree of the rules, in two slices with so much room. What stands past the counts is left as it comes.
-pub fn grow(rules: &[u32], room: Room, nodes: &mut [u32], edges: &mut [u32]) -> Grew
+// Node 0, and the rules that are no conversions.
+pub fn plant(rules: &[u32], room: Room, nodes: &mut [u32], edges: &mut [u32]) -> Grew
     requires { ⌜ (someRules (now rules) ≡ true) × Within room (now nodes) (now edges) ⌝ }
-    ensures { λ r. ⌜ Grows room (grow (roomOf room) (theRules (now (rules .entry)))) r (now (nodes .exit)) (now (edges .exit)) ⌝ }
+    ensures { λ r. ⌜ Meets room (plant (roomOf room) (theRules (now (rules .entry)))) r (now (nodes .exit)) (now (edges .exit)) ⌝ }
 {
     if room.nodes == 0 {
         return Grew::Refused(Fault::NoNode);
     }
     nodes[0] = 0;
     let root = Counts { nodes: 1, edges: 0 };
-    let placed = place::place_rules(room, root, rules, nodes, edges);
-    match placed {
-        Grew::On(c) => convert::convert_all(room, c, rules, nodes, edges),
-        Grew::Refused(f) => Grew::Refused(f),
-    }
+    place::place_rules(room, root, rules, nodes, edges)
 }

@@ -31,3 +31,7 @@ mostOffset = 255
 -- the tokens of a statement, its typecode among them
 abbrev pub mostTokens : ℕ
 mostTokens = 32769
+
+-- the rows that `clone_branches` may take up in one garden path
+abbrev pub mostTaken : ℕ
+mostTaken = 16384

@@ -52,14 +52,20 @@ pub data Fault : Type 0 where
   noNode : Fault
   noEdge : Fault
   sixthReduce : Fault
+  farOffset : Fault
   badCopy : Fault
+  manyRows : Fault
+  noClone : Fault
 
 unfoldable pub faultNumber : Fault → ℕ
 faultNumber collides = 11
 faultNumber noNode = 12
 faultNumber noEdge = 13
 faultNumber sixthReduce = 14
+faultNumber farOffset = 15
 faultNumber badCopy = 16
+faultNumber manyRows = 17
+faultNumber noClone = 6
 
 -- what is wrong with a package
 -- a record's length is cut short, under 2, or runs past the file

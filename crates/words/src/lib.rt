@@ -23,6 +23,8 @@ pub const MOST_REDUCES: u32 = 5;
 pub const MOST_OFFSET: u32 = 255;
 // The tokens of a statement, its typecode among them.
 pub const MOST_TOKENS: usize = 32769;
+// The rows that a clone may take up in one garden path.
+pub const MOST_TAKEN: usize = 16384;
 // The words of an edge.
 pub const ROW_WIDTH: usize = 16;
 
@@ -60,7 +62,11 @@ pub const NO_EDGE: u32 = 13;
 
 pub const SIXTH_REDUCE: u32 = 14;
 
+pub const FAR_OFFSET: u32 = 15;
+
 pub const BAD_COPY: u32 = 16;
+
+pub const MANY_ROWS: u32 = 17;
 
 // The numbers that a package is refused with.
 pub const CUT_SHORT: u32 = 20;

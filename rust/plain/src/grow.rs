@@ -1,16 +1,18 @@
-//! Growing the tree: rules first, then conversions.
+//! Growing the tree: rules first, then commands, conversions among them or last.
 
 use std::collections::HashMap;
 
+use crate::garden::{Command, Taken};
 use crate::numbers::{NodeNo, Refusal, RuleNo, ROOT};
-use crate::rows::{with_reduce, Edge, Reduce, Row};
+use crate::rows::{behind, joined, Edge, Reduce, Row};
 use crate::rules::{Conversion, Item, Rules};
 
-/// How many rows may be made.
+/// How many rows may be made, and how many clones may have begun and not be done.
 #[derive(Clone, Copy, Debug)]
 pub struct Room {
     pub nodes: usize,
     pub edges: usize,
+    pub frames: usize,
 }
 
 /// A tree in the making: its rows in the order in which they were made.
@@ -23,41 +25,82 @@ pub struct Tree {
     index: HashMap<(NodeNo, Item), usize>,
     /// The rows that leave each node, in row order.
     leaving: Vec<Vec<usize>>,
-    room: Room,
+    /// For each garden path so far, what it took up.
+    pub taken: Vec<Taken>,
+    pub(crate) room: Room,
 }
 
-pub fn grow(rules: &Rules, room: Room) -> Result<Tree, Refusal> {
+/// The whole tree, or the first refusal.
+pub fn grow(rules: &Rules, commands: &[u32], room: Room) -> Result<Tree, Refusal> {
     let mut tree = Tree::empty(room);
-    tree.add_node(None)?;
-    for (rule, placed) in rules.numbered().filter(|(_, rule)| rule.converts().is_none()) {
-        tree.place(rule, &placed.body)?;
-    }
-    for &conversion in rules.conversions() {
-        tree.convert(conversion)?;
-    }
+    tree.grow(rules, commands)?;
     Ok(tree)
 }
 
 impl Tree {
-    fn empty(room: Room) -> Tree {
+    pub fn empty(room: Room) -> Tree {
         Tree {
             nodes: Vec::new(),
             rows: Vec::new(),
             index: HashMap::new(),
             leaving: Vec::new(),
+            taken: Vec::new(),
             room,
         }
     }
 
-    fn edge(&self, from: NodeNo, item: Item) -> Option<&Edge> {
+    /// Of a refused tree what stood then is left.
+    pub fn grow(&mut self, rules: &Rules, commands: &[u32]) -> Result<(), Refusal> {
+        self.add_node(None)?;
+        for (rule, placed) in rules.numbered().filter(|(_, rule)| rule.converts().is_none()) {
+            self.place(rule, &placed.body)?;
+        }
+        let converted = self.run(rules, commands)?;
+        if converted {
+            return Ok(());
+        }
+        self.convert_all(rules)
+    }
+
+    /// Each command is read when the one before it is done. Says whether one was the conversions.
+    fn run(&mut self, rules: &Rules, commands: &[u32]) -> Result<bool, Refusal> {
+        let mut converted = false;
+        let mut left = commands;
+        while !left.is_empty() {
+            let (command, rest) = Command::read(left).ok_or(Refusal::BadCommand)?;
+            match command {
+                Command::Path { prefix, shadow } => self.garden_path(&prefix, &shadow)?,
+                Command::Conversions => {
+                    self.convert_all(rules)?;
+                    converted = true;
+                }
+            }
+            left = rest;
+        }
+        Ok(converted)
+    }
+
+    fn convert_all(&mut self, rules: &Rules) -> Result<(), Refusal> {
+        rules.conversions().iter().try_for_each(|&conversion| self.convert(conversion))
+    }
+
+    /// The rows that leave a node now, constants before variables, each in row order.
+    pub(crate) fn constants_first(&self, node: NodeNo) -> Vec<usize> {
+        let rows = &self.leaving[node.index()];
+        let variable = |row: &usize| matches!(self.rows[*row].item, Item::Slot(_));
+        let (variables, constants): (Vec<usize>, Vec<usize>) = rows.iter().copied().partition(variable);
+        [constants, variables].concat()
+    }
+
+    pub(crate) fn edge(&self, from: NodeNo, item: Item) -> Option<&Edge> {
         self.index.get(&(from, item)).map(|&row| &self.rows[row].edge)
     }
 
-    fn is_leaf(&self, node: NodeNo) -> bool {
+    pub(crate) fn is_leaf(&self, node: NodeNo) -> bool {
         self.nodes[node.index()].is_some()
     }
 
-    fn add_node(&mut self, leaf: Option<RuleNo>) -> Result<NodeNo, Refusal> {
+    pub(crate) fn add_node(&mut self, leaf: Option<RuleNo>) -> Result<NodeNo, Refusal> {
         if self.nodes.len() >= self.room.nodes {
             return Err(Refusal::NodesFull);
         }
@@ -67,7 +110,7 @@ impl Tree {
         Ok(node)
     }
 
-    fn add_row(&mut self, from: NodeNo, item: Item, edge: Edge) -> Result<(), Refusal> {
+    pub(crate) fn add_row(&mut self, from: NodeNo, item: Item, edge: Edge) -> Result<(), Refusal> {
         if self.rows.len() >= self.room.edges {
             return Err(Refusal::EdgesFull);
         }
@@ -118,18 +161,23 @@ impl Tree {
         if let Some(onto) = self.edge(node, Item::Slot(conversion.from)).map(|edge| edge.to) {
             return self.copy_branches(to, onto, conversion.rule);
         }
-        let first = Reduce {
-            rule: conversion.rule,
-            offset: 0,
-        };
-        let reduces = with_reduce(&edge.reduces, first)?;
+        let reduces = joined(&[&[Reduce::whole(conversion.rule)], &edge.reduces])?;
         self.add_row(node, Item::Slot(conversion.from), Edge { to, reduces })
     }
 
-    fn copy_branches(&mut self, from: NodeNo, onto: NodeNo, rule: RuleNo) -> Result<(), Refusal> {
-        if from == onto || self.is_leaf(from) || self.is_leaf(onto) {
-            return Err(Refusal::BadCopy);
+    /// 16 if rows can't be copied between the two.
+    pub(crate) fn may_copy(&self, from: NodeNo, onto: NodeNo) -> Result<(), Refusal> {
+        if from == onto {
+            return Err(Refusal::CopiedToItself);
         }
+        if self.is_leaf(from) || self.is_leaf(onto) {
+            return Err(Refusal::LeafCopied);
+        }
+        Ok(())
+    }
+
+    fn copy_branches(&mut self, from: NodeNo, onto: NodeNo, rule: RuleNo) -> Result<(), Refusal> {
+        self.may_copy(from, onto)?;
         for row in self.leaving[from.index()].clone() {
             self.copy_row(row, onto, rule)?;
         }
@@ -141,9 +189,8 @@ impl Tree {
         if self.edge(onto, item).is_some() {
             return Ok(());
         }
-        // Behind a variable edge the slot's own tree lies over the one to convert.
-        let offset = if matches!(item, Item::Slot(_)) { 1 } else { 0 };
-        let reduces = with_reduce(&edge.reduces, Reduce { rule, offset })?;
+        let first = behind(item, &[Reduce::whole(rule)])?;
+        let reduces = joined(&[&first, &edge.reduces])?;
         let to = edge.to;
         self.add_row(onto, item, Edge { to, reduces })
     }

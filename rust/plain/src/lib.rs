@@ -6,6 +6,7 @@
 
 mod check;
 mod forest;
+mod garden;
 mod grammar;
 mod grow;
 mod numbers;
@@ -16,6 +17,7 @@ mod walk;
 pub mod words;
 
 pub use check::check;
+pub use garden::{Command, Taken};
 pub use grammar::Grammar;
 pub use grow::{grow, Room, Tree};
 pub use numbers::{NodeNo, Refusal, RuleNo, Symbol, TOKEN_LIMIT};

@@ -7,6 +7,8 @@ pub const NODE_LIMIT: usize = 8_192;
 pub const EDGE_LIMIT: usize = 16_384;
 pub const REDUCE_LIMIT: usize = 5;
 pub const OFFSET_LIMIT: u32 = 255;
+/// Edges that a garden path may take up.
+pub const TAKEN_LIMIT: usize = 16_384;
 /// The typecode is counted.
 pub const TOKEN_LIMIT: usize = 32_769;
 
@@ -72,7 +74,16 @@ pub enum Refusal {
     NodesFull,
     EdgesFull,
     SixthReduce,
-    BadCopy,
+    OffsetPastLimit,
+    /// Of the reasons for 16: rows copied from or to a leaf.
+    LeafCopied,
+    CopiedToItself,
+    /// To a leaf, or of a node to itself.
+    BadClone,
+    BadCommand,
+    BadPath,
+    NoSecondEdge,
+    TooManyTaken,
     /// A package's refusals name a record, counted from 0.
     BadLength(usize),
     UnknownKind(usize),
@@ -97,7 +108,10 @@ impl Refusal {
             Refusal::NodesFull => 12,
             Refusal::EdgesFull => 13,
             Refusal::SixthReduce => 14,
-            Refusal::BadCopy => 16,
+            Refusal::OffsetPastLimit => 15,
+            Refusal::LeafCopied | Refusal::CopiedToItself | Refusal::BadClone => 16,
+            Refusal::BadCommand | Refusal::BadPath | Refusal::NoSecondEdge => 16,
+            Refusal::TooManyTaken => 17,
             Refusal::BadLength(_) => 20,
             Refusal::UnknownKind(_) => 21,
             Refusal::WrongSize(_) => 22,

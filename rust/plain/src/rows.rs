@@ -19,18 +19,37 @@ pub struct Reduce {
 }
 
 impl Reduce {
+    /// Of the trees on top.
+    pub fn whole(rule: RuleNo) -> Reduce {
+        Reduce { rule, offset: 0 }
+    }
+
     fn read(pair: &[u32], rules: &Rules) -> Option<Reduce> {
         let rule = rules.named(pair[0])?;
         (pair[1] <= OFFSET_LIMIT).then_some(Reduce { rule, offset: pair[1] })
     }
 }
 
-/// The list with one more reduce in front; 14 if it was full.
-pub fn with_reduce(reduces: &[Reduce], first: Reduce) -> Result<Vec<Reduce>, Refusal> {
-    if reduces.len() == REDUCE_LIMIT {
+/// The lists one behind the other; 14 if they are more than an edge takes.
+pub fn joined(lists: &[&[Reduce]]) -> Result<Vec<Reduce>, Refusal> {
+    let reduces = lists.concat();
+    if reduces.len() > REDUCE_LIMIT {
         return Err(Refusal::SixthReduce);
     }
-    Ok([&[first], reduces].concat())
+    Ok(reduces)
+}
+
+/// The list as it has to be behind one more item: behind a slot one more tree lies on top. 15 if an offset can't be raised.
+pub fn behind(item: Item, reduces: &[Reduce]) -> Result<Vec<Reduce>, Refusal> {
+    let raised = |reduce: &Reduce| match item {
+        Item::Constant(_) => Ok(*reduce),
+        Item::Slot(_) if reduce.offset == OFFSET_LIMIT => Err(Refusal::OffsetPastLimit),
+        Item::Slot(_) => Ok(Reduce {
+            offset: reduce.offset + 1,
+            ..*reduce
+        }),
+    };
+    reduces.iter().map(raised).collect()
 }
 
 /// Where an edge leads and what is reduced on the way.

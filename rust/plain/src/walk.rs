@@ -170,7 +170,7 @@ impl<'a> Walk<'a> {
     }
 
     fn reduce_whole(&mut self, rule: RuleNo) -> Result<(), Refusal> {
-        self.forest.reduce(Reduce { rule, offset: 0 })
+        self.forest.reduce(Reduce::whole(rule))
     }
 
     fn finish(&self) -> Result<Vec<u32>, Refusal> {

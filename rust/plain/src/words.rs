@@ -1,6 +1,7 @@
 //! The entry points: slices of words in, numbers out. Any words may stand in any slice.
 
 use crate::check;
+use crate::garden::FRAME;
 use crate::grammar::Grammar;
 use crate::grow::{grow, Room, Tree};
 use crate::numbers::{Refusal, RuleNo, EDGE_LIMIT, NODE_LIMIT};
@@ -81,16 +82,26 @@ pub fn body(provable: u32, logic: u32, rules: &[u32], rule: u32) -> Stretch {
     })
 }
 
-/// The tree of the rules, in two slices of any length and content.
-pub fn build(provable: u32, logic: u32, rules: &[u32], nodes: &mut [u32], edges: &mut [u32]) -> Built {
+/// The tree of the rules and commands, in two slices of any length and content.
+pub fn build(
+    provable: u32,
+    logic: u32,
+    rules: &[u32],
+    commands: &[u32],
+    nodes: &mut [u32],
+    edges: &mut [u32],
+    frames: &mut [u32],
+) -> Built {
     nodes.fill(0);
     edges.fill(0);
+    frames.fill(0);
     let room = Room {
         nodes: nodes.len().min(NODE_LIMIT),
         edges: (edges.len() / ROW).min(EDGE_LIMIT),
+        frames: frames.len() / FRAME,
     };
     let read = Rules::read(provable, logic, rules).ok_or(Refusal::BadRules);
-    match read.and_then(|rules| grow(&rules, room)) {
+    match read.and_then(|rules| grow(&rules, commands, room)) {
         Ok(tree) => write(&tree, nodes, edges),
         Err(refusal) => Built {
             number: refusal.number(),

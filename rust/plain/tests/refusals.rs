@@ -27,7 +27,7 @@ fn bodies_as_stretches() {
 fn rule_answers(provable: u32, logic: u32, words: &[u32]) -> [u32; 3] {
     let (mut nodes, mut edges, mut frames, mut list, mut work) =
         ([GARBAGE; 70], [GARBAGE; 1_600], [GARBAGE; 9], [GARBAGE; 9], [GARBAGE; 9]);
-    let built = plain::build(provable, logic, words, &mut nodes, &mut edges);
+    let built = plain::build(provable, logic, words, &[], &mut nodes, &mut edges, &mut frames);
     let (nodes, edges) = (&nodes[..built.nodes as usize], &edges[..16 * built.edges as usize]);
     let parsed = plain::parse(provable, logic, words, nodes, edges, &[], 9, &mut frames, &mut list, &mut work);
     let checked = plain::verify(provable, logic, words, &[], &[], &mut work);

@@ -2,7 +2,8 @@
 
 use jiehkavon::words::{self, Answer, Built, Stretch};
 
-use crate::sets::{grammar, set_s, Random, TEN_PASSES};
+use crate::examples::EXAMPLES;
+use crate::sets::{grammar, rules_of, set_s, Random, TEN_PASSES};
 
 const REFUSED_1: Answer = Answer {
     number: 1,
@@ -15,7 +16,7 @@ const REFUSED_1: Answer = Answer {
 fn empty_slices() {
     assert_eq!(words::body(1, 2, &[], 1), Stretch { start: 0, length: 0 });
     assert_eq!(
-        words::build(1, 2, &[], &mut [], &mut []),
+        words::build(1, 2, &[], &[], &mut [], &mut [], &mut []),
         Built {
             number: 12,
             nodes: 0,
@@ -23,14 +24,14 @@ fn empty_slices() {
         }
     );
     assert_eq!(
-        words::build(1, 2, &[], &mut [9], &mut []),
+        words::build(1, 2, &[], &[], &mut [9], &mut [], &mut []),
         Built {
             number: 0,
             nodes: 1,
             edges: 0
         }
     );
-    assert_eq!(words::build(0, 0, &[], &mut [], &mut []).number, 10);
+    assert_eq!(words::build(0, 0, &[], &[], &mut [], &mut [], &mut []).number, 10);
     let parsed = words::parse(1, 2, &[], &[], &[], &[], 0, &mut [], &mut [], &mut []);
     assert_eq!(parsed, Answer { number: 8, ..REFUSED_1 });
     assert_eq!(words::parse(1, 2, &[], &[0], &[], &[], 0, &mut [], &mut [], &mut []), REFUSED_1);
@@ -66,50 +67,63 @@ impl Arena {
     }
 }
 
+/// The second example of garden paths: rules, commands, and its tables.
+fn copied_branch() -> (Vec<u32>, &'static [u32], Vec<u32>, Vec<u32>) {
+    let example = &EXAMPLES[3];
+    let rules = rules_of(example.rules).words().to_vec();
+    let (mut nodes, mut edges) = (vec![0; 16], vec![0; 256]);
+    let built = words::build(1, 2, &rules, example.commands, &mut nodes, &mut edges, &mut [0; 32]);
+    assert_eq!((built.number, built.nodes, built.edges), (0, 16, 16));
+    (rules, example.commands, nodes, edges)
+}
+
 #[test]
-fn a_build_writes_its_two_slices_and_nothing_else() {
-    let rules = set_s();
-    let (nodes, edges) = (
-        grammar(set_s()).tables().node_words().to_vec(),
-        grammar(set_s()).tables().edge_words().to_vec(),
-    );
-    for (more_nodes, more_edges) in [(0, 0), (1, 0), (0, 1), (3, 40)] {
-        let lengths = [rules.words().len(), nodes.len() + more_nodes, edges.len() + more_edges];
-        let mut arena = Arena::of(&[rules.words(), &vec![77; lengths[1]], &vec![88; lengths[2]]]);
-        let [lent_rules, lent_nodes, lent_edges] = arena.parts(lengths);
-        let built = words::build(1, 2, lent_rules, lent_nodes, lent_edges);
-        assert_eq!(
-            built,
-            Built {
-                number: 0,
-                nodes: 17,
-                edges: 19
-            }
-        );
+fn a_build_writes_its_three_slices_and_nothing_else() {
+    let (rules, commands, nodes, edges) = copied_branch();
+    for (more_nodes, more_edges, frames) in [(0, 0, 32), (1, 0, 32), (0, 1, 33), (3, 40, 100)] {
+        let lengths = [
+            rules.len(),
+            commands.len(),
+            nodes.len() + more_nodes,
+            edges.len() + more_edges,
+            frames,
+        ];
+        let mut arena = Arena::of(&[&rules, commands, &vec![77; lengths[2]], &vec![88; lengths[3]], &vec![99; frames]]);
+        let [lent_rules, lent_commands, lent_nodes, lent_edges, lent_frames] = arena.parts(lengths);
+        let built = words::build(1, 2, lent_rules, lent_commands, lent_nodes, lent_edges, lent_frames);
+        assert_eq!((built.number, built.nodes, built.edges), (0, 16, 16));
         let padded = |words: &[u32], more| [words, &vec![0; more]].concat();
-        let after = Arena::of(&[rules.words(), &padded(&nodes, more_nodes), &padded(&edges, more_edges)]);
-        assert_eq!(arena.words, after.words);
+        let after = [
+            &rules,
+            commands,
+            &padded(&nodes, more_nodes),
+            &padded(&edges, more_edges),
+            &vec![0; frames],
+        ];
+        assert_eq!(arena.words, Arena::of(&after).words);
     }
 }
 
 #[test]
 fn a_refused_build_leaves_zeros() {
-    let rules = set_s();
-    // a node too few, an edge too few (short by one word), bad rules
-    for (nodes, edges, logic, number) in [(16, 304, 2, 12), (17, 303, 2, 13), (17, 304, 1, 10)] {
-        let lengths = [rules.words().len(), nodes, edges];
-        let mut arena = Arena::of(&[rules.words(), &vec![77; nodes], &vec![88; edges]]);
-        let [lent_rules, lent_nodes, lent_edges] = arena.parts(lengths);
-        let built = words::build(1, logic, lent_rules, lent_nodes, lent_edges);
-        assert_eq!(
-            built,
-            Built {
-                number,
-                nodes: 0,
-                edges: 0
-            }
-        );
-        assert_eq!(arena.words, Arena::of(&[rules.words(), &vec![0; nodes], &vec![0; edges]]).words);
+    let (rules, commands, ..) = copied_branch();
+    // a node too few, an edge too few (short by one word), a frame too few (likewise), bad rules, a last command that is none
+    for (nodes, edges, frames, logic, more, number) in [
+        (15, 256, 32, 2, &[][..], 12),
+        (16, 255, 32, 2, &[], 13),
+        (16, 256, 31, 2, &[], 6),
+        (16, 256, 0, 2, &[], 6),
+        (16, 256, 32, 1, &[], 10),
+        (16, 256, 32, 2, &[3], 16),
+    ] {
+        let commands = [commands, more].concat();
+        let mut arena = Arena::of(&[&rules, &commands, &vec![77; nodes], &vec![88; edges], &vec![99; frames]]);
+        let [lent_rules, lent_commands, lent_nodes, lent_edges, lent_frames] =
+            arena.parts([rules.len(), commands.len(), nodes, edges, frames]);
+        let built = words::build(1, logic, lent_rules, lent_commands, lent_nodes, lent_edges, lent_frames);
+        assert_eq!((built.number, built.nodes, built.edges), (number, 0, 0));
+        let zeros = [&rules, &commands, &vec![0; nodes], &vec![0; edges], &vec![0; frames]];
+        assert_eq!(arena.words, Arena::of(&zeros.map(|part| &part[..])).words);
     }
 }
 
@@ -211,9 +225,10 @@ fn any_words_get_a_listed_number() {
         assert!(parsed.number <= 10 && parsed.place <= 4);
         assert!([frames, work].concat().iter().all(|&word| word == 0));
         assert!(list[parsed.length as usize..].iter().all(|&word| word == 0));
-        let (mut more_nodes, mut more_edges) = (slice(9), slice(70));
-        let built = words::build(1, 2, &rules, &mut more_nodes, &mut more_edges);
-        assert!([0, 10, 11, 12, 13, 14, 16].contains(&built.number));
+        let (commands, mut more_nodes, mut more_edges, mut frames) = (slice(9), slice(9), slice(70), slice(40));
+        let built = words::build(1, 2, &rules, &commands, &mut more_nodes, &mut more_edges, &mut frames);
+        assert!([0, 6, 10, 11, 12, 13, 14, 15, 16, 17].contains(&built.number));
+        assert!(frames.iter().all(|&word| word == 0));
         assert!(more_nodes[built.nodes as usize..].iter().all(|&word| word == 0));
         assert!(more_edges[16 * built.edges as usize..].iter().all(|&word| word == 0));
     }

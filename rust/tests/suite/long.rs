@@ -78,7 +78,9 @@ fn a_flat_list_of_trees() {
     let tokens = [vec![1, 16], [14, 10].repeat(pairs), vec![10]].concat();
     assert_eq!(tokens.len(), LONGEST + 1);
     let list = [vec![1; pairs + 1], vec![2; pairs], vec![3]].concat();
-    let passes = asked(&grammar, &tokens, 4 * LONGEST as u32, [LONGEST, list.len(), list.len()]).0.passes;
+    let passes = asked(&grammar, &tokens, 4 * LONGEST as u32, [LONGEST, list.len(), list.len()])
+        .0
+        .passes;
     exact(&grammar, &tokens, &list, passes, pairs + 1);
     assert_eq!(checked(&grammar, &tokens, &list, list.len()), 0);
     assert_eq!(checked(&grammar, &tokens, &list, list.len() - 1), 7);
@@ -90,7 +92,10 @@ fn one_token_more() {
     let tokens = prefixes(LONGEST);
     assert_eq!(tokens.len(), 32_770);
     let list = [vec![1], vec![6; LONGEST]].concat();
-    assert_eq!(asked(&grammar, &tokens, u32::MAX, [LONGEST, 18 * LONGEST, 18 * LONGEST]).0, refused(9, 0));
+    assert_eq!(
+        asked(&grammar, &tokens, u32::MAX, [LONGEST, 18 * LONGEST, 18 * LONGEST]).0,
+        refused(9, 0)
+    );
     assert_eq!(asked(&grammar, &tokens, 0, [0, 0, 0]).0, refused(9, 0));
     assert_eq!(checked(&grammar, &tokens, &list, list.len()), 9);
     assert_eq!(checked(&grammar, &tokens, &list, 0), 9);

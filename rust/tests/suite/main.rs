@@ -1,6 +1,8 @@
 //! The wrapper and the library below it, by running them.
 
 mod entry;
+mod examples;
+mod garden;
 mod layout;
 mod long;
 mod package;

@@ -135,7 +135,7 @@ fn numbers_of_builds() {
             edges: 0,
         });
         assert_eq!(refusal.map_or(0, |refusal| refusal.number()), number);
-        let listed = [10, 11, 12, 13, 14, 16].contains(&number);
+        let listed = [6, 10, 11, 12, 13, 14, 15, 16, 17].contains(&number);
         assert_eq!(matches!(refusal, Some(BuildError::Unlisted(_))), number != 0 && !listed);
         assert!(refusal.map_or(true, |refusal| refusal
             .to_string()

@@ -112,7 +112,15 @@ fn a_list_may_be_longer_than_its_statement() {
 
 /// The tree of the rules in as much room as any build can use.
 fn build_at_the_limits(rules: &Rules, nodes: &mut [u32], edges: &mut [u32]) -> Result<Tables, BuildError> {
-    let built = words::build(rules.provable().word(), rules.logic().word(), rules.words(), nodes, edges);
+    let built = words::build(
+        rules.provable().word(),
+        rules.logic().word(),
+        rules.words(),
+        &[],
+        nodes,
+        edges,
+        &mut [],
+    );
     let (node_count, edge_count) = (built.nodes as usize, built.edges as usize);
     match BuildError::of(built) {
         None => Ok(Tables::from_words(&nodes[..node_count], &edges[..edge_count * ROW_WIDTH])),

@@ -24,6 +24,30 @@ pub fn rules(list: &[(u32, &[Item])]) -> Rules {
     rules
 }
 
+/// `2 c5 s3; 3 c7` is a rule with result 2 and a body of constant 5 and slot 3, and another.
+pub fn rules_of(text: &str) -> Rules {
+    let mut rules = Rules::new(symbol(1), symbol(2));
+    for rule in text.split(';').filter(|rule| !rule.trim().is_empty()) {
+        let mut words = rule.split_whitespace();
+        let result = number(words.next().expect("a result"));
+        let items: Vec<Item> = words.map(item_of).collect();
+        rules.push(symbol(result), &items);
+    }
+    rules
+}
+
+fn item_of(text: &str) -> Item {
+    let (kind, word) = text.split_at(1);
+    match kind {
+        "c" => c(number(word)),
+        _ => s(number(word)),
+    }
+}
+
+fn number(text: &str) -> u32 {
+    text.parse().expect("a number")
+}
+
 pub fn set_s() -> Rules {
     rules(&[
         (2, &[c(10)]),

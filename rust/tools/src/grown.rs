@@ -5,6 +5,8 @@
 //! purpose, each in one way.
 
 use self::Item::{Constant, Slot};
+use crate::inputs::commands::{words, Command};
+use crate::inputs::gardens::garden;
 use crate::random::Random;
 use std::collections::BTreeMap;
 use std::ops::RangeInclusive;
@@ -22,6 +24,13 @@ pub enum Item {
 }
 
 impl Item {
+    fn of(pair: [u32; 2]) -> Item {
+        match pair {
+            [0, symbol] => Constant(symbol),
+            [_, typecode] => Slot(typecode),
+        }
+    }
+
     pub fn pair(self) -> [u32; 2] {
         match self {
             Constant(symbol) => [0, symbol],
@@ -60,6 +69,7 @@ pub struct Set {
     pub provable: u32,
     pub logic: u32,
     pub rules: Vec<Rule>,
+    pub commands: Vec<Command>,
     /// In which order the Rust is told the symbols; 0 is that of their first use. It must not matter.
     pub shuffle: u64,
 }
@@ -73,6 +83,10 @@ impl Set {
             words.extend(rule.body.iter().flat_map(|item| item.pair()));
         }
         words
+    }
+
+    pub fn command_words(&self) -> Vec<u32> {
+        words(&self.commands)
     }
 
     /// Bodies that are placed in the tree: all but those of conversions.
@@ -119,6 +133,21 @@ pub fn grow_set(seed: u64, number: u64) -> (Set, Random) {
     (set, seed)
 }
 
+/// Set `number` of a seed, with commands, and the generator for its statements.
+pub fn grow_garden(seed: u64, number: u64) -> (Set, Random) {
+    let mut seed = random_of(seed, number);
+    let garden = garden(&mut seed);
+    let rule = |rule: &crate::inputs::rules::Rule| rule_of(rule.result, rule.body.iter().map(|item| Item::of(item.pair())).collect());
+    let set = Set {
+        provable: garden.set.provable,
+        logic: garden.set.logic,
+        rules: garden.set.rules.iter().map(rule).collect(),
+        commands: garden.commands,
+        shuffle: seed.below(4) as u64,
+    };
+    (set, seed)
+}
+
 fn palette(seed: &mut Random, typecodes: usize, constants: usize) -> Palette {
     let mut numbers: Vec<u32> = match seed.below(10) {
         0..=6 => (1..=typecodes as u32).chain(10..10 + constants as u32).collect(),
@@ -157,6 +186,7 @@ fn set_of(palette: &Palette, rules: Vec<Rule>, seed: &mut Random) -> Set {
         provable: palette.typecodes[0],
         logic: palette.typecodes[1],
         rules,
+        commands: Vec::new(),
         shuffle,
     };
     feed_floats(&mut set, seed);

@@ -4,9 +4,10 @@ use crate::grown::{collide, Item, Set};
 use crate::oracle::{Answers, Asked, Build, Edge, Node, Parse, Said, Tree};
 use crate::sides::Side;
 use crate::tables;
+use crate::trees::{relation, Relation};
 use jiehkavon::limits::{MOST_EDGES, MOST_NODES, MOST_RULES, ROW_WIDTH};
 use jiehkavon::words::Answer;
-use plain::TOKEN_LIMIT;
+use plain::{Refusal, Room, Rules, TOKEN_LIMIT};
 use std::collections::{BTreeMap, HashSet};
 
 /// What stands in every lent word before a call, so that a word that isn't written shows.
@@ -76,21 +77,59 @@ struct Grown {
     clean: bool,
 }
 
-/// Room for any tree of the set: a node for each item, and at each node an edge for each different item.
-fn room(set: &Set) -> (usize, usize) {
+/// Room for the largest trees.
+const MOST: Room = Room {
+    nodes: MOST_NODES,
+    edges: MOST_EDGES,
+    frames: 16_385,
+};
+
+/// Words of a frame.
+const FRAME_WIDTH: usize = 16;
+
+/// Rooms to build in, one after the other while one is short. Without garden paths a node for each item is enough, and at each node an edge
+/// for each different item. With them a tree may grow to any size, but most stay small.
+fn rooms(set: &Set) -> Vec<Room> {
     let items = set.rules.iter().flat_map(|rule| &rule.body);
-    let nodes = items.clone().count() + 1;
+    let count = items.clone().count() + 1;
     let keys = items.map(|item| item.pair()).collect::<HashSet<_>>().len();
-    (nodes.min(MOST_NODES), (nodes * keys).min(MOST_EDGES))
+    let least = Room {
+        nodes: count.min(MOST_NODES),
+        edges: (count * keys).min(MOST_EDGES),
+        frames: 0,
+    };
+    let small = Room {
+        nodes: 300,
+        edges: 2_000,
+        frames: 40,
+    };
+    match set.commands[..] {
+        [] => vec![least],
+        _ => vec![small, MOST],
+    }
 }
 
 fn grow(side: &Side, set: &Set, rules: &[u32]) -> Grown {
-    let (nodes, edges) = room(set);
-    let mut nodes = vec![STALE; nodes];
-    let mut edges = vec![STALE; edges * ROW_WIDTH];
-    let built = (side.build)(set.provable, set.logic, rules, &mut nodes, &mut edges);
+    let grown = rooms(set).into_iter().map(|room| grow_in(side, set, rules, room));
+    let mut tried: Vec<Grown> = Vec::new();
+    for grown in grown {
+        let short = [6, 12, 13].contains(&grown.number);
+        tried.push(grown);
+        if !short {
+            break;
+        }
+    }
+    tried.pop().expect("some room")
+}
+
+fn grow_in(side: &Side, set: &Set, rules: &[u32], room: Room) -> Grown {
+    let mut nodes = vec![STALE; room.nodes];
+    let mut edges = vec![STALE; room.edges * ROW_WIDTH];
+    let mut frames = vec![STALE; room.frames * FRAME_WIDTH];
+    let commands = set.command_words();
+    let built = (side.build)(set.provable, set.logic, rules, &commands, &mut nodes, &mut edges, &mut frames);
     let (past_nodes, past_edges) = (built.nodes as usize, built.edges as usize * ROW_WIDTH);
-    let rest = nodes.iter().skip(past_nodes).chain(edges.iter().skip(past_edges));
+    let rest = nodes.iter().skip(past_nodes).chain(edges.iter().skip(past_edges)).chain(&frames);
     let clean = rest.copied().all(|word| word == 0) && (built.number == 0 || (built.nodes, built.edges) == (0, 0));
     tables::cut(built, &mut nodes, &mut edges);
     Grown {
@@ -179,21 +218,57 @@ fn judge_build(set: &Set, number: u32, theirs: &Build) -> (Verdict, String) {
     let (collides, beyond_floats) = collisions(set);
     let fault = fault(set);
     let kind = theirs.kind();
+    let reason = explained(set).err().filter(|refusal| refusal.number() == number);
     let verdict = match (number, kind) {
         (10, _) if fault.is_some() => Verdict::Listed,
         _ if fault.is_some() || (number == 11) != collides => Verdict::Found,
         (0, "built") | (14, "panic sixth reduce") | (16, "diag leaf" | "panic same node") => Verdict::Same,
         (11, "diag ambiguous") if beyond_floats => Verdict::Same,
         (11, "panic sixth reduce" | "panic same node") => Verdict::Listed,
+        (11, kind) if !set.commands.is_empty() && (kind.starts_with("panic") || kind == "endless") => Verdict::Listed,
         (11, "built" | "diag leaf") if !beyond_floats => Verdict::Listed,
+        _ if !set.commands.is_empty() => judge_commands(number, reason, kind),
         _ => Verdict::Found,
     };
     let why = match (number, fault) {
         (10, Some(fault)) => format!(" ({fault})"),
         (11, _) if !beyond_floats => " (variables)".to_string(),
+        (16, _) if !set.commands.is_empty() => format!(" ({})", reason.map_or("no reason", told_reason)),
         _ => String::new(),
     };
     (verdict, format!("build: {number}{why} / {kind}"))
+}
+
+/// The tree of the papers in ordinary Rust, which can tell more than its words: why it is refused, and the edges that each path takes up.
+fn explained(set: &Set) -> Result<plain::Tree, Refusal> {
+    let rules = Rules::read(set.provable, set.logic, &set.words()).ok_or(Refusal::BadRules)?;
+    plain::grow(&rules, &set.command_words(), MOST)
+}
+
+fn told_reason(reason: Refusal) -> &'static str {
+    match reason {
+        Refusal::LeafCopied => "rows of a leaf",
+        Refusal::CopiedToItself => "rows to their own node",
+        Refusal::BadClone => "a clone to a leaf or itself",
+        Refusal::NoSecondEdge => "no edge from the second place",
+        Refusal::BadPath => "not in the tree",
+        _ => "no command",
+    }
+}
+
+/// Where a command is refused by either. The Rust goes on where a node is copied to itself or a clone leads to a leaf, and where the second
+/// place has no edge it makes one; it reports a key that is there twice over, and knows no end to a copy that copies itself.
+fn judge_commands(number: u32, reason: Option<Refusal>, kind: &str) -> Verdict {
+    let goes_on = matches!(reason, Some(Refusal::CopiedToItself | Refusal::BadClone | Refusal::NoSecondEdge));
+    let refused = (kind.starts_with("diag") || kind.starts_with("panic")) && !kind.ends_with("other");
+    match (number, kind) {
+        (16, "built" | "endless") if goes_on => Verdict::Listed,
+        (16, _) if reason.is_some() && refused => Verdict::Same,
+        (15, "panic offset") => Verdict::Same,
+        (0 | 12 | 13 | 14 | 15, "diag double conflict") => Verdict::Listed,
+        (12 | 13 | 17, "endless") => Verdict::Listed,
+        _ => Verdict::Found,
+    }
 }
 
 /// A parse and all that it gave back.
@@ -214,6 +289,7 @@ struct Desk<'a> {
     set: &'a Set,
     rules: &'a [u32],
     grown: &'a Grown,
+    relation: Relation,
 }
 
 impl Desk<'_> {
@@ -273,6 +349,22 @@ impl Desk<'_> {
         by_conversion && ours.answer.passes > theirs.passes && self.first_ending(tokens) == Some(theirs.passes)
     }
 
+    /// Whether the answers may part because of a garden path. A path's reduces can come too late or be wrong, which we find out at the finish
+    /// and the Rust not, or by a panic. Behind a variable edge that is not raised the Rust takes the wrong trees. What is a formula of the
+    /// statement there is one here.
+    fn may_part(&self, ours: &Walked, theirs: &Parse) -> bool {
+        let formula = matches!(
+            theirs.said,
+            Said::Ok {
+                same: true,
+                typed: true,
+                ..
+            }
+        );
+        let by_path = ours.answer.number == 4 && ours.answer.passes == theirs.passes && ends(theirs);
+        !self.set.commands.is_empty() && !formula && (by_path || self.relation == Relation::Raised)
+    }
+
     /// The pass in which a conversion first ends a statement. Over the same tables, but with a constant behind every conversion so that it
     /// is none, the walk makes a root step there; that is refused in the same pass, or leads to a branch where the tokens have ended.
     fn first_ending(&self, tokens: &[u32]) -> Option<u32> {
@@ -328,23 +420,35 @@ fn judge_parse(ours: &Walked, theirs: &Parse, tokens: &[u32]) -> Verdict {
     }
 }
 
+/// Puts a set to the Rust again, its symbols told in other orders.
+pub type Again<'a> = &'a dyn Fn(&Asked) -> Vec<Answers>;
+
 /// Everything of one set: the build, the tree, and each statement.
-pub fn hold(side: &Side, name: &str, asked: &Asked, theirs: &Answers, tally: &mut Tally) {
+pub fn hold(side: &Side, name: &str, asked: &Asked, theirs: &Answers, again: Again, tally: &mut Tally) {
     let set = &asked.set;
     let rules = set.words();
     let grown = grow(side, set, &rules);
     tally.add("sets", 1);
     let (mut verdict, mut pair) = judge_build(set, grown.number, &theirs.build);
+    let both = grown.number == 0 && matches!(theirs.build, Build::Built { .. });
+    let relation = if both {
+        hold_tree(set, &grown, theirs, tally)
+    } else {
+        Relation::Other
+    };
+    if both {
+        (verdict, pair) = judge_tree(set, relation, verdict, pair);
+    }
+    if verdict == Verdict::Found && !set.commands.is_empty() && order_shows(theirs, &again(asked)) {
+        (verdict, pair) = (Verdict::Listed, format!("{pair}: the order of the maps"));
+    }
     if !grown.clean {
         (verdict, pair) = (Verdict::Found, format!("{pair}: words left in the tables"));
-    }
-    if grown.number == 0 && matches!(theirs.build, Build::Built { .. }) && !trees_agree(set, &grown, theirs, tally) {
-        (verdict, pair) = (Verdict::Found, format!("{pair}: the trees differ"));
     }
     tally.note(verdict, pair, size(set, &[]), || {
         told(name, set, None, &format!("{:?}", theirs.build))
     });
-    if grown.number != 0 || !matches!(theirs.build, Build::Built { .. }) {
+    if relation == Relation::Other {
         tally.add("statements not compared, for want of two trees", asked.statements.len());
         return;
     }
@@ -353,36 +457,65 @@ pub fn hold(side: &Side, name: &str, asked: &Asked, theirs: &Answers, tally: &mu
         set,
         rules: &rules,
         grown: &grown,
+        relation,
     };
     for (tokens, parse) in asked.statements.iter().zip(&theirs.parses) {
         hold_statement(name, &desk, tokens, parse, tally);
     }
 }
 
-fn trees_agree(set: &Set, grown: &Grown, theirs: &Answers, tally: &mut Tally) -> bool {
-    let told = Build::Built {
+/// Without commands the numbers of nodes are the Rust's, and no offset is higher.
+fn judge_tree(set: &Set, relation: Relation, verdict: Verdict, pair: String) -> (Verdict, String) {
+    match relation {
+        Relation::Equal => (verdict, pair),
+        Relation::Renumbered if !set.commands.is_empty() => (verdict, format!("{pair}, other numbers")),
+        Relation::Raised if !set.commands.is_empty() => (Verdict::Listed, format!("{pair}, raised")),
+        _ => (Verdict::Found, format!("{pair}: the trees differ")),
+    }
+}
+
+/// Whether the Rust's own answers part. Numbers of nodes are no difference.
+fn order_shows(theirs: &Answers, others: &[Answers]) -> bool {
+    let alike = |other: &Answers| {
+        let same_tree = matches!(relation(&other.tree, &theirs.tree), Relation::Equal | Relation::Renumbered);
+        other.build.kind() == theirs.build.kind() && same_tree
+    };
+    !others.iter().all(alike)
+}
+
+/// How the two trees stand to each other; other ones if the edges taken up aren't as many.
+fn hold_tree(set: &Set, grown: &Grown, theirs: &Answers, tally: &mut Tally) -> Relation {
+    let counted = Build::Built {
         nodes: theirs.tree.nodes.len(),
         edges: theirs.tree.edges.len(),
     };
-    if theirs.build != told || tree_of(set, grown).as_ref() != Some(&theirs.tree) {
-        return false;
+    let relation = tree_of(set, grown).map_or(Relation::Other, |ours| relation(&ours, &theirs.tree));
+    let same = matches!(relation, Relation::Equal | Relation::Renumbered);
+    let taken = || explained(set).map(|tree| tree.taken.iter().map(|taken| taken.edges).collect());
+    if theirs.build != counted || (same && !set.commands.is_empty() && taken() != Ok(theirs.taken.clone())) {
+        return Relation::Other;
     }
+    if same {
+        add_tree(set, theirs, tally);
+    }
+    relation
+}
+
+fn add_tree(set: &Set, theirs: &Answers, tally: &mut Tally) {
     let edges = &theirs.tree.edges;
+    let count = |counted: &dyn Fn(&Edge) -> bool| edges.iter().filter(|edge| counted(edge)).count();
+    let offset = |edge: &Edge, least: u32| edge.reduces.iter().any(|reduce| reduce.1 >= least);
     tally.add("trees equal", 1);
     tally.add("nodes equal", theirs.tree.nodes.len());
     tally.add("edges equal", edges.len());
-    tally.add("edges with one reduce", edges.iter().filter(|edge| edge.reduces.len() == 1).count());
-    tally.add(
-        "edges with more reduces",
-        edges.iter().filter(|edge| edge.reduces.len() > 1).count(),
-    );
-    tally.add(
-        "edges with offset 1",
-        edges.iter().filter(|edge| edge.reduces.iter().any(|reduce| reduce.1 == 1)).count(),
-    );
+    tally.add("edges with one reduce", count(&|edge| edge.reduces.len() == 1));
+    tally.add("edges with more reduces", count(&|edge| edge.reduces.len() > 1));
+    tally.add("edges with an offset", count(&|edge| offset(edge, 1)));
+    tally.add("edges with an offset above 1", count(&|edge| offset(edge, 2)));
     tally.add("trees with copied edges", usize::from(copied(set, edges)));
     tally.add("sets with variables", usize::from(set.rules.iter().any(|rule| rule.float)));
-    true
+    tally.add("garden paths", theirs.taken.len());
+    tally.add("edges taken up", theirs.taken.iter().sum());
 }
 
 /// Whether an edge came by copying: a reduce on a constant edge, or one that is offset.
@@ -398,13 +531,13 @@ fn copied(set: &Set, edges: &[Edge]) -> bool {
 fn hold_statement(name: &str, desk: &Desk, tokens: &[u32], theirs: &Parse, tally: &mut Tally) {
     let ours = desk.walk(tokens);
     let goes_on = desk.goes_on(&ours, theirs, tokens);
-    let mut verdict = if goes_on {
-        Verdict::Listed
-    } else {
-        judge_parse(&ours, theirs, tokens)
+    let mut verdict = match judge_parse(&ours, theirs, tokens) {
+        Verdict::Found if goes_on || desk.may_part(&ours, theirs) => Verdict::Listed,
+        verdict => verdict,
     };
     let after = if goes_on { " later" } else { "" };
-    let mut pair = format!("parse: {}{after} / {}", ours.answer.number, theirs.kind());
+    let raised = if desk.relation == Relation::Raised { " raised" } else { "" };
+    let mut pair = format!("parse: {}{after}{raised} / {}", ours.answer.number, theirs.kind());
     if !ours.clean {
         (verdict, pair) = (Verdict::Found, format!("{pair}: words left"));
     }
@@ -436,11 +569,20 @@ fn checks_agree(desk: &Desk, ours: &Walked, theirs: &Parse, tokens: &[u32], tall
     agree
 }
 
+/// Whether the Rust came to a finish, or to a reduce that it panics at.
+fn ends(theirs: &Parse) -> bool {
+    matches!(theirs.said, Said::Ok { .. }) || ["panic several roots", "panic too few trees"].contains(&theirs.kind().as_str())
+}
+
 fn add_equal(desk: &Desk, ours: &Walked, theirs: &Parse, goes_on: bool, tally: &mut Tally) {
     let convert = ours.list.iter().any(|&rule| desk.converts(rule));
     tally.add("lists with a conversion", usize::from(convert));
     if goes_on {
         tally.add("walks that go on with frames left", 1);
+        return;
+    }
+    if desk.relation == Relation::Raised {
+        tally.add("statements over raised trees", 1);
         return;
     }
     tally.add("passes equal", 1);
@@ -462,6 +604,7 @@ fn told(name: &str, set: &Set, tokens: Option<&[u32]>, answers: &str) -> String 
         statements: tokens.iter().map(|tokens| tokens.to_vec()).collect(),
     };
     let lines = asked.to_string();
-    let questions: Vec<&str> = lines.lines().filter(|line| !["conv", "build", "tree"].contains(line)).collect();
+    let common = |line: &&str| ["build", "tree", "taken"].contains(line) || line.contains('#') || line.starts_with("limit");
+    let questions: Vec<&str> = lines.lines().filter(|line| !common(line)).collect();
     format!("{name}: {} => {answers}", questions.join("; "))
 }

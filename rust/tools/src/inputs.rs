@@ -1,6 +1,8 @@
-//! Generators of what the entry points are given: rule sets, statements, tables, packages, and damage to all of them.
+//! Generators of what the entry points are given: rule sets, commands, statements, tables, packages, and damage to all of them.
 
+pub mod commands;
 pub mod damage;
+pub mod gardens;
 pub mod limits;
 pub mod packages;
 pub mod rules;

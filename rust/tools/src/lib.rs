@@ -8,4 +8,5 @@ pub mod random;
 pub mod sides;
 pub mod tables;
 pub mod timing;
+pub mod trees;
 pub mod vectors;

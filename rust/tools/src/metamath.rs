@@ -3,7 +3,7 @@
 //! Proofs and distinct variables are passed over. A variable's `$f` becomes a rule with one constant, an `$a` of a typecode other than the
 //! provable one a rule with constants and slots; every other `$a`, and every `$e` and `$p`, is a statement.
 
-use jiehkavon::{NotASymbol, Package, Rules, Symbol};
+use jiehkavon::{Grammar, GrammarBuilder, NotASymbol, Package, Rules, Symbol};
 use std::collections::HashMap;
 use std::str::SplitAsciiWhitespace;
 
@@ -53,16 +53,67 @@ pub struct Database {
     pub statements: Vec<Statement>,
     /// How many `$f` gave way to a later one of the same variable.
     pub repeated: usize,
+    /// What is run after the rules, in order.
+    pub commands: Vec<Command>,
 }
 
 impl Database {
     pub fn read(text: &str) -> Result<Database, String> {
         let mut reader = Reader::new(text);
         reader.run()?;
-        match reader.database {
-            Database { provable: 0, .. } | Database { logic: 0, .. } => Err("the provable or the logic typecode isn't declared".to_owned()),
-            database => Ok(database),
+        let mut database = reader.database;
+        if database.provable == 0 || database.logic == 0 {
+            return Err("the provable or the logic typecode isn't declared".to_owned());
         }
+        for command in asked(text) {
+            let words: Vec<&str> = command.split_ascii_whitespace().map(|word| word.trim_matches('\'')).collect();
+            if let Some("garden_path" | "type_conversions") = words.first().copied() {
+                database.commands.push(database.command(&words)?);
+            }
+        }
+        Ok(database)
+    }
+
+    /// Commands from a text of their own, for a database whose comments have none; one that has some keeps them. A line is `PREFIX => SHADOW` in the
+    /// database's symbols, or `type_conversions`, or `rule TYPECODE SYMBOL...`: a rule of one's own behind those of the database, in which a name
+    /// that isn't declared is a new constant, that no statement has. Empty lines, and those that begin with `#`, say nothing.
+    pub fn add_commands(&mut self, text: &str) -> Result<(), String> {
+        if !self.commands.is_empty() {
+            return Ok(());
+        }
+        for line in text.lines() {
+            let words: Vec<&str> = line.split_ascii_whitespace().collect();
+            match words[..] {
+                [] => {}
+                [first, ..] if first.starts_with('#') => {}
+                ["rule", result, ref body @ ..] => self.add_rule(result, body)?,
+                ["type_conversions"] => self.commands.push(Command::TypeConversions),
+                _ => {
+                    let path = self.path(&words).ok_or_else(|| format!("no command: {line}"))??;
+                    self.commands.push(path);
+                }
+            }
+        }
+        Ok(())
+    }
+
+    fn add_rule(&mut self, result: &str, body: &[&str]) -> Result<(), String> {
+        for name in body {
+            if !self.symbols.iter().any(|symbol| symbol == name) {
+                self.symbols.push((*name).to_owned());
+            }
+        }
+        let Item::Constant(result) = self.item(result)? else {
+            return Err(format!("{result} is no typecode"));
+        };
+        let body = self.items(body)?;
+        self.rules.push(Rule {
+            label: "a rule of one's own".to_owned(),
+            result,
+            body,
+            float: false,
+        });
+        Ok(())
     }
 
     /// The database in a file.
@@ -113,32 +164,68 @@ impl Database {
         words
     }
 
-    /// The same set for the line driver around the published Rust, up to and including its build. `commands` is run after the rules.
-    pub fn lines(&self, commands: &[Command]) -> String {
+    /// The same set for the line driver around the published Rust, up to and including its build. Conversions that no command asks for are run last
+    /// here and not at all there, so they are asked for.
+    pub fn lines(&self) -> String {
         let head = format!("set {} {}\n", self.provable, self.logic);
         let rules = self.rules.iter().map(|rule| match (rule.float, &rule.body[..]) {
             (true, [Item::Constant(s)]) => format!("float {} {s}\n", rule.result),
             (_, body) => format!("rule {} {}\n", rule.result, pairs(body)),
         });
-        let commands = commands.iter().map(|command| match command {
+        let asked = self.commands.contains(&Command::TypeConversions);
+        let last = (!asked).then_some(&Command::TypeConversions);
+        let commands = self.commands.iter().chain(last).map(|command| match command {
             Command::TypeConversions => "conv\n".to_owned(),
             Command::GardenPath(prefix, shadow) => format!("gp {} {}\n", pairs(prefix), pairs(shadow)),
         });
         head + &rules.chain(commands).collect::<String>() + "build\n"
     }
 
-    /// Commands as a `$j` comment has them, each ended by a semicolon.
-    pub fn commands(&self, text: &str) -> Result<Vec<Command>, String> {
-        let split = text.split(';').map(|c| c.split_ascii_whitespace().collect::<Vec<_>>());
-        split.filter(|c| !c.is_empty()).map(|c| self.command(&c)).collect()
+    /// A command as a `$j` comment has it.
+    fn command(&self, words: &[&str]) -> Result<Command, String> {
+        let none = || format!("no command: {}", words.join(" "));
+        match words {
+            ["type_conversions"] => Ok(Command::TypeConversions),
+            ["garden_path", lists @ ..] => self.path(lists).ok_or_else(none)?,
+            _ => Err(none()),
+        }
     }
 
-    fn command(&self, words: &[&str]) -> Result<Command, String> {
-        match (words, words.iter().position(|w| *w == "=>")) {
-            (["type_conversions"], _) => Ok(Command::TypeConversions),
-            (["garden_path", ..], Some(at)) => Ok(Command::GardenPath(self.items(&words[1..at])?, self.items(&words[at + 1..])?)),
-            _ => Err(format!("no command: {}", words.join(" "))),
+    /// The path of two lists; none if nothing stands between them.
+    fn path(&self, words: &[&str]) -> Option<Result<Command, String>> {
+        let at = words.iter().position(|w| *w == "=>")?;
+        let lists = [&words[..at], &words[at + 1..]].map(|names| self.items(names));
+        let [prefix, shadow] = lists;
+        Some(prefix.and_then(|prefix| Ok(Command::GardenPath(prefix, shadow?))))
+    }
+
+    /// The commands as the words that the library is lent.
+    pub fn command_words(&self) -> Vec<u32> {
+        let words = |item: &Item| match *item {
+            Item::Constant(s) => [0, s],
+            Item::Slot(t) => [1, t],
+        };
+        let command = |command: &Command| match command {
+            Command::TypeConversions => vec![2],
+            Command::GardenPath(prefix, shadow) => {
+                let head = [1, prefix.len() as u32, shadow.len() as u32];
+                head.into_iter().chain(prefix.iter().chain(shadow).flat_map(words)).collect()
+            }
+        };
+        self.commands.iter().flat_map(command).collect()
+    }
+
+    /// The rules and commands, to be built by the library's crate.
+    pub fn builder(&self) -> Result<GrammarBuilder, NotASymbol> {
+        let typed = |items: &[Item]| items.iter().map(|item| item.typed()).collect::<Result<Vec<_>, _>>();
+        let mut builder = Grammar::builder(self.rules()?);
+        for command in &self.commands {
+            builder = match command {
+                Command::TypeConversions => builder.type_conversions(),
+                Command::GardenPath(prefix, shadow) => builder.garden_path(&typed(prefix)?, &typed(shadow)?),
+            };
         }
+        Ok(builder)
     }
 
     fn items(&self, names: &[&str]) -> Result<Vec<Item>, String> {
@@ -158,7 +245,7 @@ impl Database {
     }
 }
 
-/// What the published Rust runs after the rules.
+/// What is run after the rules.
 #[derive(Clone, Debug, PartialEq, Eq)]
 pub enum Command {
     TypeConversions,
@@ -190,13 +277,23 @@ impl<'a> Iterator for Words<'a> {
     }
 }
 
+/// What the `$j` comments of a text ask for, in order.
+fn asked(text: &str) -> Vec<String> {
+    let comments = text.split("$(").skip(1).filter_map(|rest| rest.split("$)").next());
+    let commands = comments.filter_map(|c| c.trim_start().strip_prefix("$j")).map(without_remarks);
+    commands.flat_map(|c| c.split(';').map(str::to_owned).collect::<Vec<_>>()).collect()
+}
+
+/// What stands outside of `/*` and `*/`.
+fn without_remarks(text: &str) -> String {
+    let mut parts = text.split("/*");
+    let first = parts.next().unwrap_or("").to_owned();
+    parts.fold(first, |kept, part| kept + part.split_once("*/").map_or("", |(_, after)| after))
+}
+
 /// The provable and the logic typecode. A `$j` comment anywhere decides, so that it need not stand before the first rule.
 fn typecodes(text: &str) -> (String, String) {
-    let comments = text.split("$(").skip(1).filter_map(|rest| rest.split("$)").next());
-    let commands = comments
-        .filter_map(|c| c.trim_start().strip_prefix("$j"))
-        .flat_map(|c| c.split(';'));
-    let named = commands.filter_map(syntax_as).next();
+    let named = asked(text).iter().find_map(|command| syntax_as(command));
     named.unwrap_or((PROVABLE.to_owned(), LOGIC.to_owned()))
 }
 
@@ -403,11 +500,55 @@ mod tests {
 
     #[test]
     fn lines_say_the_same_set() {
-        let d = read();
-        let commands = d.commands("garden_path ( x => ( A ; type_conversions;").expect("both are commands");
-        let said = "set 1 2\nfloat 2 8\nrule 3 1 1 7\nfloat 7 9\nfloat 7 10\nfloat 3 11\nfloat 3 12\n\
-            rule 2 5 0 4 1 3 0 5 1 3 0 6\ngp 2 0 4 1 7 2 0 4 1 3\nconv\nbuild\n";
-        assert_eq!(d.lines(&commands), said);
+        let rules = "set 1 2\nfloat 2 8\nrule 3 1 1 7\nfloat 7 9\nfloat 7 10\nfloat 3 11\nfloat 3 12\n\
+            rule 2 5 0 4 1 3 0 5 1 3 0 6\n";
+        let path = "gp 2 0 4 1 7 2 0 4 1 3\n";
+        let with = |text: &str| {
+            let mut d = read();
+            d.add_commands(text).expect("they are commands");
+            d.lines()
+        };
+        assert_eq!(with(""), format!("{rules}conv\nbuild\n"));
+        assert_eq!(with("( x => ( A"), format!("{rules}{path}conv\nbuild\n"));
+        assert_eq!(with("type_conversions\n( x => ( A"), format!("{rules}conv\n{path}build\n"));
+    }
+
+    #[test]
+    fn commands_of_a_text_of_their_own() {
+        let mut d = read();
+        let before = (d.symbols.len(), d.rules.len());
+        let text = "# ( y => ( p\n\n( x => ( A\ntype_conversions\nrule thing ( ( NEVER\n ( ( => ( A x\n";
+        d.add_commands(text).expect("they are commands");
+        assert_eq!(
+            d.command_words(),
+            [1, 2, 2, 0, 4, 1, 7, 0, 4, 1, 3, 2, 1, 2, 3, 0, 4, 0, 4, 0, 4, 1, 3, 1, 7]
+        );
+        assert_eq!((d.symbols.len(), d.rules.len()), (before.0 + 1, before.1 + 1));
+        assert!(d.rule_words().ends_with(&[3, 3, 0, 4, 0, 4, 0, 13]));
+        let refused = |text: &str| read().add_commands(text).is_err();
+        assert!(["( x", "( nothing => ( A", "type_conversions ;", "rule x (", "rule nothing ("]
+            .iter()
+            .all(|text| refused(text)));
+    }
+
+    #[test]
+    fn commands_of_comments_come_first() {
+        let asking =
+            " $( $j garden_path ( x => ( A ; /* type_conversions; */ type_conversions; unknown ( ; $) $( $j garden_path '(' y => ( A; $)";
+        let mut d = Database::read(&(TEXT.to_owned() + asking)).expect("it is a database");
+        let words = d.command_words();
+        assert_eq!(words, [1, 2, 2, 0, 4, 1, 7, 0, 4, 1, 3, 2, 1, 2, 2, 0, 4, 1, 7, 0, 4, 1, 3]);
+        d.add_commands("( p => ( A").expect("they are passed over");
+        assert_eq!(d.command_words(), words);
+        assert!(Database::read(&(TEXT.to_owned() + " $( $j garden_path ( x ( A; $)")).is_err());
+    }
+
+    #[test]
+    fn the_builder_has_the_same_commands() {
+        let mut d = read();
+        d.add_commands("( x => ( A\ntype_conversions").expect("they are commands");
+        let builder = d.builder().expect("its symbols are few");
+        assert_eq!((builder.rules().words(), builder.commands().len()), (&d.rule_words()[..], 2));
     }
 
     #[test]

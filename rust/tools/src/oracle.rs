@@ -4,6 +4,7 @@
 //! its answer in order. What can't be read is an error, never an answer: a cut or garbled text must not pass for agreement.
 
 use crate::grown::{Item, Rule, Set};
+use crate::inputs::commands::{Command, Pair};
 use std::fmt::{self, Display, Write};
 
 /// A set and the statements put to it.
@@ -36,6 +37,20 @@ impl Display for Rule {
     }
 }
 
+/// As the Rust is told it.
+impl Display for Command {
+    fn fmt(&self, f: &mut fmt::Formatter) -> fmt::Result {
+        let list = |pairs: &[Pair]| format!(" {}{}", pairs.len(), join(pairs.iter().flatten().copied()));
+        match self {
+            Command::Path { prefix, shadow } => write!(f, "gp{}{}", list(prefix), list(shadow)),
+            Command::Conversions => write!(f, "conv"),
+        }
+    }
+}
+
+/// Conversions that no command asks for come last here; the Rust has to be asked.
+const UNASKED: &str = "conv # unasked";
+
 impl Display for Asked {
     /// The questions, a line each.
     fn fmt(&self, f: &mut fmt::Formatter) -> fmt::Result {
@@ -46,7 +61,19 @@ impl Display for Asked {
         for rule in &self.set.rules {
             writeln!(f, "{rule}")?;
         }
-        writeln!(f, "conv\nbuild\ntree")?;
+        for command in &self.set.commands {
+            writeln!(f, "{command}")?;
+        }
+        if !self.set.commands.contains(&Command::Conversions) {
+            writeln!(f, "{UNASKED}")?;
+        }
+        if !self.set.commands.is_empty() {
+            writeln!(f, "limit {LIMIT}")?;
+        }
+        writeln!(f, "build\ntree")?;
+        if !self.set.commands.is_empty() {
+            writeln!(f, "taken")?;
+        }
         for statement in &self.statements {
             writeln!(f, "parse{}", join(statement.iter().copied()))?;
         }
@@ -56,6 +83,9 @@ impl Display for Asked {
 
 /// A question line is taken into the set it belongs to.
 pub fn take_question(asked: &mut Vec<Asked>, line: &str) -> Result<(), String> {
+    if line == UNASKED {
+        return Ok(());
+    }
     let mut words = line.split_ascii_whitespace();
     let verb = words.next().unwrap_or("");
     let numbers: Vec<u32> = words.map(number).collect::<Result<_, _>>()?;
@@ -89,11 +119,25 @@ pub fn take_question(asked: &mut Vec<Asked>, line: &str) -> Result<(), String> {
                 float: true,
             });
         }
-        ("conv" | "build" | "tree", []) => {}
+        ("gp", lists) => last.set.commands.push(path(lists).ok_or_else(|| format!("no path: {line}"))?),
+        ("conv", []) => last.set.commands.push(Command::Conversions),
+        ("build" | "tree" | "taken", []) | ("limit", [_]) => {}
         ("parse", statement) => last.statements.push(statement.to_vec()),
         _ => return Err(format!("no question: {line}")),
     }
     Ok(())
+}
+
+/// Two lists of pairs, each after its length.
+fn path(lists: &[u32]) -> Option<Command> {
+    let cut = |words: &[u32]| {
+        let (&length, rest) = words.split_first()?;
+        let (pairs, rest) = rest.split_at_checked(2 * length as usize)?;
+        Some((pairs.chunks_exact(2).map(|pair| [pair[0], pair[1]]).collect(), rest.to_vec()))
+    };
+    let (prefix, rest) = cut(lists)?;
+    let (shadow, rest) = cut(&rest)?;
+    rest.is_empty().then_some(Command::Path { prefix, shadow })
 }
 
 fn item(pair: &[u32]) -> Result<Item, String> {
@@ -111,13 +155,51 @@ fn number(word: &str) -> Result<u32, String> {
 /// What the Rust says to a build.
 #[derive(Clone, Debug, PartialEq, Eq)]
 pub enum Build {
-    Built { nodes: usize, edges: usize },
+    Built {
+        nodes: usize,
+        edges: usize,
+    },
     Diagnostic(String),
     Panic(String),
+    /// It would have run out of stack.
+    Endless,
 }
+
+/// What a report or a panic says, and a short name for it.
+const DIAGNOSTICS: [(&str, &str); 9] = [
+    ("ambiguous", "diag ambiguous"),
+    ("double conflicts", "diag double conflict"),
+    ("is a leaf", "diag leaf"),
+    ("Leaf reached", "diag leaf before the lists part"),
+    ("Shadowed prefix", "diag shadow"),
+    ("More <reduce>", "diag reduces left over"),
+    ("xpanded", "diag expanded"),
+    ("Prefix cannot be parsed", "diag prefix"),
+    ("undefined", "diag shadow at a constant"),
+];
+const PANICS: [(&str, &str); 6] = [
+    ("capacity overflow", "panic sixth reduce"),
+    ("add with overflow", "panic offset"),
+    ("grammar.rs:943", "panic a list ends"),
+    ("grammar.rs:94", "panic same node"),
+    ("Prefix cannot be parsed", "panic common part"),
+    ("Expected branch", "panic leaf"),
+];
+
+/// The name of what a text says first.
+fn named(text: &str, names: &[(&str, &'static str)]) -> Option<&'static str> {
+    let places = names.iter().filter_map(|(said, name)| Some((text.find(said)?, *name)));
+    places.min_by_key(|(place, _)| *place).map(|(_, name)| name)
+}
+
+/// The most edges that a garden path may take up; one that goes on is told to be endless.
+const LIMIT: usize = 16_384;
 
 impl Build {
     fn read(line: &str) -> Result<Self, String> {
+        if line == "endless" {
+            return Ok(Build::Endless);
+        }
         let (word, rest) = line.split_once(' ').ok_or_else(|| format!("no answer to a build: {line}"))?;
         match word {
             "built" => {
@@ -137,12 +219,9 @@ impl Build {
     pub fn kind(&self) -> &'static str {
         match self {
             Build::Built { .. } => "built",
-            Build::Diagnostic(text) if text.contains("ambiguous") => "diag ambiguous",
-            Build::Diagnostic(text) if text.contains("is a leaf") => "diag leaf",
-            Build::Diagnostic(_) => "diag other",
-            Build::Panic(text) if text.contains("capacity overflow") => "panic sixth reduce",
-            Build::Panic(text) if text.contains("index out of bounds") && text.contains("grammar.rs") => "panic same node",
-            Build::Panic(_) => "panic other",
+            Build::Diagnostic(text) => named(text, &DIAGNOSTICS).unwrap_or("diag other"),
+            Build::Panic(text) => named(text, &PANICS).unwrap_or("panic other"),
+            Build::Endless => "endless",
         }
     }
 }
@@ -170,6 +249,13 @@ pub struct Tree {
 }
 
 impl Tree {
+    /// The tree of the lines between `tree` and `end`.
+    pub fn read(lines: &[String]) -> Result<Tree, String> {
+        let mut tree = Tree::default();
+        lines.iter().try_for_each(|line| tree.take_row(line))?;
+        Ok(tree)
+    }
+
     fn take_row(&mut self, line: &str) -> Result<(), String> {
         let bad = || format!("no row of a tree: {line}");
         let (verb, rest) = line.split_once(' ').ok_or_else(bad)?;
@@ -288,36 +374,43 @@ impl Said {
     }
 }
 
-/// All answers to one `Asked`. After a panic there is no grammar, hence no tree and no answers to statements.
+/// All answers to one `Asked`. After a panic, or without an end, there is no grammar, hence no tree and no answers to statements.
 #[derive(Clone, Debug, PartialEq, Eq)]
 pub struct Answers {
     pub build: Build,
     pub tree: Tree,
+    /// The edges that each garden path took up.
+    pub taken: Vec<usize>,
     pub parses: Vec<Parse>,
 }
 
 impl Answers {
-    pub fn read<'a>(statements: usize, lines: &mut impl Iterator<Item = &'a str>) -> Result<Self, String> {
+    pub fn read<'a>(asked: &Asked, lines: &mut impl Iterator<Item = &'a str>) -> Result<Self, String> {
         let mut line = || lines.next().ok_or("the answers are cut");
         let build = Build::read(line()?)?;
         let mut answers = Answers {
             build,
             tree: Tree::default(),
+            taken: Vec::new(),
             parses: Vec::new(),
         };
-        let head = line()?;
-        if matches!(answers.build, Build::Panic(_)) {
-            for silent in 0..=statements {
-                let said = if silent == 0 { head } else { line()? };
-                if said != "nogrammar" {
-                    return Err(format!("an answer after a panic: {said}"));
-                }
-            }
-            return Ok(answers);
+        let silent = matches!(answers.build, Build::Panic(_) | Build::Endless);
+        let nothing = |said: &str| match said {
+            "nogrammar" => Ok(()),
+            _ => Err(format!("an answer without a grammar: {said}")),
+        };
+        match line()? {
+            said if silent => nothing(said)?,
+            head => answers.read_tree(head, &mut line)?,
         }
-        answers.read_tree(head, &mut line)?;
-        for _ in 0..statements {
-            answers.parses.push(Parse::read(line()?)?);
+        if !asked.set.commands.is_empty() {
+            answers.taken = taken(line()?)?;
+        }
+        for _ in &asked.statements {
+            match line()? {
+                said if silent => nothing(said)?,
+                said => answers.parses.push(Parse::read(said)?),
+            }
         }
         Ok(answers)
     }
@@ -336,4 +429,9 @@ impl Answers {
         self.tree.edges.sort();
         Ok(())
     }
+}
+
+fn taken(line: &str) -> Result<Vec<usize>, String> {
+    let counts = line.strip_prefix("taken").ok_or_else(|| format!("no edges taken up: {line}"))?;
+    counts.split_ascii_whitespace().map(|count| Ok(number(count)? as usize)).collect()
 }

@@ -2,8 +2,8 @@
 
 use jiehkavon::words::{self, Answer, Built};
 
-/// Provable, logic, rules, then the nodes and edges that are lent.
-type Build = fn(u32, u32, &[u32], &mut [u32], &mut [u32]) -> Built;
+/// Provable, logic, rules, commands, then the nodes, edges and frames that are lent.
+type Build = fn(u32, u32, &[u32], &[u32], &mut [u32], &mut [u32], &mut [u32]) -> Built;
 /// Provable, logic, rules, nodes, edges, tokens, allowance, then the frames, list and work that are lent.
 type Parse = fn(u32, u32, &[u32], &[u32], &[u32], &[u32], u32, &mut [u32], &mut [u32], &mut [u32]) -> Answer;
 /// Provable, logic, rules, tokens, list, then the work that is lent.
@@ -25,8 +25,8 @@ pub const LIBRARY: Side = Side {
 
 pub const PLAIN: Side = Side {
     name: "plain",
-    build: |provable, logic, rules, nodes, edges| {
-        let plain::Built { number, nodes, edges } = plain::build(provable, logic, rules, nodes, edges);
+    build: |provable, logic, rules, commands, nodes, edges, frames| {
+        let plain::Built { number, nodes, edges } = plain::build(provable, logic, rules, commands, nodes, edges, frames);
         Built { number, nodes, edges }
     },
     parse: |provable, logic, rules, nodes, edges, tokens, allowance, frames, list, work| {

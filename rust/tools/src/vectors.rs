@@ -55,7 +55,7 @@ pub fn read(text: &str) -> Result<Vec<(Asked, Answers)>, String> {
 
 fn pair(asked: Asked, lines: &[&str]) -> Result<(Asked, Answers), String> {
     let mut lines = lines.iter().copied();
-    let answers = Answers::read(asked.statements.len(), &mut lines)?;
+    let answers = Answers::read(&asked, &mut lines)?;
     match lines.next() {
         Some(line) => Err(format!("an answer too many: {line}")),
         None => Ok((asked, answers)),
@@ -68,7 +68,7 @@ pub fn bind<'a>(questions: &'a str, mut answers: impl Iterator<Item = &'a str>) 
     for line in questions.lines().filter(|line| !line.starts_with("# ") && !line.starts_with("#= ")) {
         let _ = writeln!(body, "{line}");
         let verb = line.split(' ').next().unwrap_or("");
-        let mut more = ["build", "tree", "parse"].contains(&verb);
+        let mut more = ["build", "tree", "taken", "parse"].contains(&verb);
         while more {
             let answer = answers.next().ok_or("the answers are cut")?;
             let _ = writeln!(body, "# {answer}");

@@ -18,6 +18,15 @@ enum-told-4 c = search needs
 enum-told-5 : tie.Need-enum-told-5
 enum-told-5 c = search needs
 
+enum-told-6 : tie.Need-enum-told-6
+enum-told-6 c = search needs
+
+enum-told-7 : tie.Need-enum-told-7
+enum-told-7 c = search needs
+
+enum-told-8 : tie.Need-enum-told-8
+enum-told-8 c = search needs
+
 returns : tie.Need-returns
 unfolding faultNumber
 returns c = search needs
@@ -38,6 +47,18 @@ returns-5 : tie.Need-returns-5
 unfolding faultNumber
 returns-5 c = search needs
 
+returns-6 : tie.Need-returns-6
+unfolding faultNumber
+returns-6 c = search needs
+
+returns-7 : tie.Need-returns-7
+unfolding faultNumber
+returns-7 c = search needs
+
+returns-8 : tie.Need-returns-8
+unfolding faultNumber
+returns-8 c = search needs
+
 pub fault-number-spec : {M : Type 1} → statement M
 fault-number-spec =
     tie.close
@@ -47,8 +68,14 @@ fault-number-spec =
     enum-told-3
     enum-told-4
     enum-told-5
+    enum-told-6
+    enum-told-7
+    enum-told-8
     returns
     returns-2
     returns-3
     returns-4
-    returns-5)
+    returns-5
+    returns-6
+    returns-7
+    returns-8)

@@ -16,33 +16,35 @@ rules-good-requires : tie.Need-rules-good-requires
 rules-good-requires c κs = search needs
 
 good : (c : tie.Else1)
-    → let st = c .before .before .before .before .before in rulesGood (st .args .codes .provable .0) (st .args .codes .logic .0) (now (st .args .rules)) ≡ true
+    → let st = c .before .before .before .before .before .before .before in rulesGood (st .args .codes .provable .0) (st .args .codes .logic .0) (now (st .args .rules)) ≡ true
 good c = passed (c .before .rules-good .ensures) (c .if1 .left)
 
 returns : tie.Need-returns
-returns c = raised-no _ badRules _ _ _ _ (build-bad _ _ _ _ _ (failed (c .before .rules-good .ensures) (c .if1 .taken))) refl refl
+returns c = raised-no _ badRules _ _ _ _ _ (build-bad _ _ _ _ _ _ _ (failed (c .before .rules-good .ensures) (c .if1 .taken))) refl refl
 
 build-room-requires : tie.Need-build-room-requires
 build-room-requires c κs = search needs
 
-grow-requires : tie.Need-grow-requires
-grow-requires c κs =
-    let f = room-fits _ _ _ (c .before .before .build-room .ensures) in
-    (rules-good _ _ _ (good (c .before .before .before)), record { nodes = f .nodes-in; few = f .nodes-few; edges = f .edges-in })
+build-requires : tie.Need-build-requires
+build-requires c κs =
+    let f = room-fits _ _ _ (c .before .before .before .build-room .ensures) in
+    (rules-good _ _ _ (good (c .before .before .before .before)), record { nodes = f .nodes-in; few = f .nodes-few; edges = f .edges-in }, f .edges-few)
 
 enum-known-c : tie.Need-enum-known-c
 enum-known-c c = search needs
 
-cast-t18 : tie.Need-cast-t18
-cast-t18 c =
-    let f = room-fits _ (length (now (c .before .before .before .before .before .before .before .before .before .before .before .before .before .before .before .before .before .args .nodes))) (length (now (c .before .before .before .before .before .before .before .before .before .before .before .before .before .before .before .before .before .args .edges))) (c .before .before .before .before .before .before .before .before .before .before .before .build-room .ensures) in
-    let s = counts-small _ _ _ _ _ _ (f .nodes-few) (f .edges-few) (c .before .before .before .before .before .before .before .before .grow .ensures) (c .before .before .c .given .1) .0 in
+cast-t22 : tie.Need-cast-t22
+cast-t22 c =
+    let st = c .before .before .before .before .before .before .before .before .before .before .before .before .before .before .before .before .before .before .before .before .before .before in
+    let f = room-fits _ (length (now (st .args .nodes))) (length (now (st .args .edges))) (c .before .before .before .before .before .before .before .before .before .before .before .before .before .before .build-room .ensures) in
+    let s = counts-small _ _ _ _ _ _ (f .nodes-few) (f .edges-few) (c .before .before .before .before .before .before .before .before .before .before .build .ensures) (c .before .before .c .given .1) .0 in
     omega (arith, s)
 
-cast-t19 : tie.Need-cast-t19
-cast-t19 c =
-    let f = room-fits _ (length (now (c .before .before .before .before .before .before .before .before .before .before .before .before .before .before .before .before .before .before .args .nodes))) (length (now (c .before .before .before .before .before .before .before .before .before .before .before .before .before .before .before .before .before .before .args .edges))) (c .before .before .before .before .before .before .before .before .before .before .before .before .build-room .ensures) in
-    let s = counts-small _ _ _ _ _ _ (f .nodes-few) (f .edges-few) (c .before .before .before .before .before .before .before .before .before .grow .ensures) (c .before .before .before .c .given .1) .1 in
+cast-t23 : tie.Need-cast-t23
+cast-t23 c =
+    let st = c .before .before .before .before .before .before .before .before .before .before .before .before .before .before .before .before .before .before .before .before .before .before .before in
+    let f = room-fits _ (length (now (st .args .nodes))) (length (now (st .args .edges))) (c .before .before .before .before .before .before .before .before .before .before .before .before .before .before .before .build-room .ensures) in
+    let s = counts-small _ _ _ _ _ _ (f .nodes-few) (f .edges-few) (c .before .before .before .before .before .before .before .before .before .before .before .build .ensures) (c .before .before .before .c .given .1) .1 in
     omega (arith, s)
 
 enum-known-f : tie.Need-enum-known-f
@@ -57,21 +59,27 @@ same-length c = search needs
 same-length-2 : tie.Need-same-length-2
 same-length-2 c = search needs
 
-returns-2 : tie.Need-returns-2
-returns-2 c =
-    let g = c .before .before .before .before .before .before .before .before .before .grow in
-    raised-on _ _ _ _ _ (good (c .before .before .before .before .before .before .before .before .before .before .before .before .before)) _ (c .before .before .before .before .before .before .before .before .before .before .before .before .build-room .ensures) _ _ _ (g .kept .1 .1 .0) (g .kept .1 .1 .1 .0) (g .ensures) _ (c .before .before .before .c .given .1)
-
 same-length-3 : tie.Need-same-length-3
 same-length-3 c = search needs
+
+returns-2 : tie.Need-returns-2
+returns-2 c =
+    let g = c .before .before .before .before .before .before .before .before .before .before .before .build in
+    raised-on _ _ _ _ _ _ _ (good (c .before .before .before .before .before .before .before .before .before .before .before .before .before .before .before .before)) _ (c .before .before .before .before .before .before .before .before .before .before .before .before .before .before .before .build-room .ensures) _ _ _ (g .kept .1 .1 .1 .0) (g .kept .1 .1 .1 .1 .0) (g .ensures) _ (c .before .before .before .c .given .1)
 
 same-length-4 : tie.Need-same-length-4
 same-length-4 c = search needs
 
+same-length-5 : tie.Need-same-length-5
+same-length-5 c = search needs
+
+same-length-6 : tie.Need-same-length-6
+same-length-6 c = search needs
+
 returns-3 : tie.Need-returns-3
 returns-3 c =
-    let g = c .before .before .before .before .before .before .before .before .grow in
-    raised-refused _ _ _ _ _ (good (c .before .before .before .before .before .before .before .before .before .before .before .before)) _ (c .before .before .before .before .before .before .before .before .before .before .before .build-room .ensures) _ _ _ (g .kept .1 .1 .0) (g .kept .1 .1 .1 .0) (g .ensures) _ _ (c .before .before .f .given .1) (c .fault-number .ensures)
+    let g = c .before .before .before .before .before .before .before .before .before .before .build in
+    raised-refused _ _ _ _ _ _ _ (good (c .before .before .before .before .before .before .before .before .before .before .before .before .before .before .before)) _ (c .before .before .before .before .before .before .before .before .before .before .before .before .before .before .build-room .ensures) _ _ _ (g .kept .1 .1 .1 .0) (g .kept .1 .1 .1 .1 .0) (g .ensures) _ _ (c .before .before .f .given .1) (c .fault-number .ensures)
 
 pub raise-spec : {M : Type 1} → statement M
 raise-spec =
@@ -80,15 +88,17 @@ raise-spec =
     rules-good-requires
     returns
     build-room-requires
-    grow-requires
+    build-requires
     enum-known-c
-    cast-t18
-    cast-t19
+    cast-t22
+    cast-t23
     enum-known-f
     fault-number-requires
     same-length
     same-length-2
-    returns-2
     same-length-3
+    returns-2
     same-length-4
+    same-length-5
+    same-length-6
     returns-3)

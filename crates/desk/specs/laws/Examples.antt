@@ -122,8 +122,8 @@ verify-orders = (refl, refl, refl, refl, refl)
 -- ---- builds, word for word
 
 -- set S whole, in slices a little longer than it needs
-built-S : buildGives 1 2 words-S 19 321
-    ≡ record { number = 0; nodes = 17; edges = 19; node-words = padded nodes-S 19; edge-words = padded (edgeWords edges-S) 321 }
+built-S : buildGives 1 2 words-S [] 19 321 0
+    ≡ record { number = 0; nodes = 17; edges = 19; node-words = padded nodes-S 19; edge-words = padded (edgeWords edges-S) 321; frame-words = [] }
 unfolding opening tables
 built-S = refl
 
@@ -141,7 +141,7 @@ record Shape : Type 0 where
 shape : Built → Shape
 shape b = record { number = b .number; nodes = b .nodes; edges = b .edges; of-17 = leaving 17 (edgesOf (b .edge-words)) }
 
-built-S10 : shape (buildGives 1 2 words-S10 20 368)
+built-S10 : shape (buildGives 1 2 words-S10 [] 20 368 0)
     ≡ record { number = 0; nodes = 20; edges = 23; of-17 = edge 17 0 15 18 [] ∷ edge 17 0 8 13 five ∷ edge 17 0 9 15 five ∷ [] }
 unfolding shape leaving opening tables
 built-S10 = refl
@@ -153,7 +153,7 @@ chain (suc n) = (41 + n) ∷ 1 ∷ 1 ∷ (40 + n) ∷ chain n
 
 -- number, counts
 gives : List ℕ → ℕ → ℕ → ℕ × ℕ × ℕ
-gives rules nodes edges = let b = buildGives 1 2 rules nodes edges in (b .number, b .nodes, b .edges)
+gives rules nodes edges = let b = buildGives 1 2 rules [] nodes edges 0 in (b .number, b .nodes, b .edges)
 
 chains : (gives (2 ∷ 2 ∷ 0 ∷ 31 ∷ 1 ∷ 45 ∷ chain 5) 9 160 ≡ (0, 3, 7)) × (gives (2 ∷ 2 ∷ 0 ∷ 31 ∷ 1 ∷ 46 ∷ chain 6) 9 160 ≡ (14, 0, 0))
 unfolding chain gives opening
@@ -165,10 +165,34 @@ unfolding gives opening
 rooms = (refl, refl, refl, refl, refl)
 
 -- a refused build leaves zeros: bad rules, bodies that collide
-zeroed : (buildGives 1 2 (1 ∷ []) 2 3 ≡ record { number = 10; nodes = 0; edges = 0; node-words = zeros 2; edge-words = zeros 3 })
-    × (buildGives 1 2 (2 ∷ 1 ∷ 0 ∷ 10 ∷ 2 ∷ 1 ∷ 0 ∷ 10 ∷ []) 4 40 ≡ record { number = 11; nodes = 0; edges = 0; node-words = zeros 4; edge-words = zeros 40 })
+zeroed : (buildGives 1 2 (1 ∷ []) [] 2 3 1 ≡ record { number = 10; nodes = 0; edges = 0; node-words = zeros 2; edge-words = zeros 3; frame-words = zeros 1 })
+    × (buildGives 1 2 (2 ∷ 1 ∷ 0 ∷ 10 ∷ 2 ∷ 1 ∷ 0 ∷ 10 ∷ []) [] 4 40 0
+    ≡ record { number = 11; nodes = 0; edges = 0; node-words = zeros 4; edge-words = zeros 40; frame-words = [] })
 unfolding opening
 zeroed = (refl, refl)
+
+-- ---- garden paths
+
+-- 1: 3 [c20]; 2: 2 [c21]; 3: 2 [s3 c8 s3]; 4: 3 [c5 s3 c9 s3 c6]; 5: 2 [c5 s2 c7 s2 c6]
+set-E2 : List ℕ
+set-E2 = 3 ∷ 1 ∷ 0 ∷ 20 ∷ 2 ∷ 1 ∷ 0 ∷ 21 ∷ 2 ∷ 3 ∷ 1 ∷ 3 ∷ 0 ∷ 8 ∷ 1 ∷ 3 ∷ 3 ∷ 5 ∷ 0 ∷ 5 ∷ 1 ∷ 3 ∷ 0 ∷ 9 ∷ 1 ∷ 3 ∷ 0 ∷ 6
+    ∷ 2 ∷ 5 ∷ 0 ∷ 5 ∷ 1 ∷ 2 ∷ 0 ∷ 7 ∷ 1 ∷ 2 ∷ 0 ∷ 6 ∷ []
+
+-- number, counts, and the frames' words
+gardened : List ℕ → List ℕ → ℕ → ℕ → ℕ → ℕ × ℕ × ℕ × List ℕ
+gardened rules commands nodes edges frames = let b = buildGives 1 2 rules commands nodes edges frames in (b .number, b .nodes, b .edges, b .frame-words)
+
+-- c5 s3 => c5 s2: two frames are needed; with a word less it is 6
+paths : (gardened set-E2 (1 ∷ 2 ∷ 2 ∷ 0 ∷ 5 ∷ 1 ∷ 3 ∷ 0 ∷ 5 ∷ 1 ∷ 2 ∷ []) 16 256 32 ≡ (0, 16, 16, zeros 32))
+    × (gardened set-E2 (1 ∷ 2 ∷ 2 ∷ 0 ∷ 5 ∷ 1 ∷ 3 ∷ 0 ∷ 5 ∷ 1 ∷ 2 ∷ []) 16 256 31 ≡ (6, 0, 0, zeros 31))
+unfolding set-E2 gardened opening
+paths = (refl, refl)
+
+-- 1: 2 [c10 s2]; 2: 2 [c10 c10 c10], c10 c10 c10 => c10 s2: without a frame it is 6, though nothing would be copied
+frameless : buildGives 1 2 (2 ∷ 2 ∷ 0 ∷ 10 ∷ 1 ∷ 2 ∷ 2 ∷ 3 ∷ 0 ∷ 10 ∷ 0 ∷ 10 ∷ 0 ∷ 10 ∷ []) (1 ∷ 3 ∷ 2 ∷ 0 ∷ 10 ∷ 0 ∷ 10 ∷ 0 ∷ 10 ∷ 0 ∷ 10 ∷ 1 ∷ 2 ∷ []) 6 80 15
+    ≡ record { number = 6; nodes = 0; edges = 0; node-words = zeros 6; edge-words = zeros 80; frame-words = zeros 15 }
+unfolding opening
+frameless = refl
 
 -- ---- bodies
 

@@ -7,14 +7,14 @@ use mathlib.Core.Option.{Option, some, none}
 use Prim.Native.Nat.{ℕ, zero, suc, _+_, _*_, _-_, _/_, _≤_, _<_}
 use native.Mathlib.Nat.{sub-zero}
 use native.Mathlib.Omega.{arith}
-use lib.Dec.{leb, ltb}
+use lib.Dec.{eqb, leb, ltb}
 use lib.ListN.{length, getD, take, drop, length-replicate}
 use lib.Seq.{take-at}
 use borrow.Author.Tests.{leb-true, leb-false, ltb-false, not-true, le-ltb}
-use Rattle.words.specs.Limits.{mostTokens, mostNodes, mostEdges, rowWidth}
+use Rattle.words.specs.Limits.{mostTokens, mostNodes, mostEdges, rowWidth, mostTaken}
 use Rattle.words.specs.Lent.{zeros, padded}
-use Rattle.words.specs.Outcome.{Res, ok, no, lesser, Demand, demand, firstFault}
-use Rattle.words.specs.Numbers.{tooFewTokens, noPass, badTables, tooManyTokens, badRules, misfit, noFrame, noEntry, number, Fault, collides, noNode, noEdge, sixthReduce, badCopy, faultNumber}
+use Rattle.words.specs.Outcome.{Res, ok, no, pick, lesser, Demand, demand, firstFault}
+use Rattle.words.specs.Numbers.{tooFewTokens, noPass, badTables, tooManyTokens, badRules, misfit, noFrame, noEntry, number, Fault, collides, noNode, noEdge, sixthReduce, farOffset, badCopy, manyRows, noClone, faultNumber}
 use Rattle.words.specs.laws.Tests.{lesser-le, lesser-is}
 use Rattle.words.specs.laws.Faults.{met, unmet, Clear, clear, Each, none-left, one-more, fault-is}
 use Rattle.rules.specs.Rules.{Rule, symbol, theRules, rulesGood, Stretch}
@@ -22,10 +22,16 @@ use Rattle.rules.specs.laws.Proper.{Proper, rules-proper}
 use Rattle.rows.specs.Rows.{Edge, edgesOf, edgeWords, find, tablesGood}
 use Rattle.rows.specs.laws.Fair.{RowOk, found, tables-fair}
 use Rattle.rows.specs.laws.Words.{edgeWords-length}
-use Rattle.package.specs.laws.Writes.{padded-length}
+use Rattle.words.specs.laws.Parts.{padded-length}
 use Rattle.tree.specs.Grow.{Grown, grow}
-use Rattle.tree.specs.laws.Built.{built-inv, built-tables-pass}
-use Rattle.tree.specs.laws.Collide.{Among, first, later, Collision, grow-collides}
+use Rattle.tree.specs.laws.Collide.{Among, first, later, Collision}
+use Rattle.garden.specs.Garden.{theCommands}
+use Rattle.garden.specs.Garden as garden
+use Rattle.garden.specs.laws.Alone.{no-commands, conversions-alone}
+use Rattle.garden.specs.laws.Built.{built-inv, built-tables-pass}
+use Rattle.garden.specs.laws.Faults.{build-collides}
+use Rattle.garden.specs.laws.Faults as refusals
+use Rattle.garden.specs.laws.Frames as clones
 use Rattle.formula.specs.Check.{check}
 use Rattle.formula.specs.Meaning.{Tree}
 use Rattle.formula.specs.laws.Check.{check-sound, check-complete, unique}
@@ -38,7 +44,7 @@ use Rattle.walk.specs.laws.Frames.{walk-frames}
 use Rattle.walk.specs.laws.Length.{walk-list}
 use Rattle.walk.specs.laws.Within.{walk-within}
 use Rattle.walk.specs.laws.Sound.{walk-checked, walk-unlisted, walk-numbers, walk-placeless, walk-place}
-use Rattle.desk.specs.Entry.{bodyGives, Built, notBuilt, builtBy, buildAfter, buildRoom, buildGives, Parsed, Lent, walkRoom, parsed, theTables, Asked, parseDemands, walkAfter, walkOf, parseGives, verifyDemands, Verified, verifyGives, Means}
+use Rattle.desk.specs.Entry.{bodyGives, Built, notBuilt, builtBy, buildAfter, buildRoom, gardenBounds, buildGives, Parsed, Lent, walkRoom, parsed, theTables, Asked, parseDemands, walkAfter, walkOf, parseGives, verifyDemands, Verified, verifyGives, Means}
 
 -- ---- determined: what an entry point gives back is a value of its definition, so two results that meet it are one, every lent word included
 
@@ -315,29 +321,32 @@ refused-zeros-parse q a s n =
     let e = unlisted q a (walkRoom s) n in
     record { length = ap length e; frames = refl; list = ap (λ (l : List ℕ). padded l (s .list)) e ∙ rw sub-zero; work = refl }
 
-pub record Empty (nodes edges : ℕ) (r : Built) : Type 0 where
+-- a build
+pub record Empty (nodes edges frames : ℕ) (r : Built) : Type 0 where
   pub node-count : r .nodes ≡ 0
   pub edge-count : r .edges ≡ 0
   pub node-zeros : r .node-words ≡ zeros nodes
   pub edge-zeros : r .edge-words ≡ zeros edges
+  pub frame-zeros : r .frame-words ≡ zeros frames
 
-empty-by : (nodes edges k : ℕ) → Empty nodes edges (notBuilt k nodes edges)
-empty-by nodes edges k = record { node-count = refl; edge-count = refl; node-zeros = refl; edge-zeros = refl }
+module _ (rules commands : List ℕ) (nodes edges frames : ℕ) where
+  empty-by : (k : ℕ) → Empty nodes edges frames (notBuilt k nodes edges frames)
+  empty-by k = record { node-count = refl; edge-count = refl; node-zeros = refl; edge-zeros = refl; frame-zeros = refl }
 
-built-empty : (nodes edges : ℕ) (o : Res Fault Grown) → builtBy nodes edges o .number ≢ 0 → Empty nodes edges (builtBy nodes edges o)
-unfolding builtBy
-built-empty nodes edges (ok g) n = absurd (n refl)
-built-empty nodes edges (no y) n = empty-by nodes edges (faultNumber y)
+  built-empty : (o : Res Fault Grown) → builtBy nodes edges frames o .number ≢ 0 → Empty nodes edges frames (builtBy nodes edges frames o)
+  unfolding builtBy
+  built-empty (ok g) n = absurd (n refl)
+  built-empty (no y) n = empty-by (faultNumber y)
 
-after-empty : (rules : List ℕ) (nodes edges k : ℕ) → buildAfter rules nodes edges k .number ≢ 0 → Empty nodes edges (buildAfter rules nodes edges k)
-unfolding buildAfter
-after-empty rules nodes edges zero n = built-empty nodes edges _ n
-after-empty rules nodes edges (suc k) n = empty-by nodes edges (suc k)
+  after-empty : (k : ℕ) → buildAfter rules commands nodes edges frames k .number ≢ 0 → Empty nodes edges frames (buildAfter rules commands nodes edges frames k)
+  unfolding buildAfter
+  after-empty zero n = built-empty _ n
+  after-empty (suc k) n = empty-by (suc k)
 
-pub refused-zeros-build : (provable logic : ℕ) (rules : List ℕ) (nodes edges : ℕ) → buildGives provable logic rules nodes edges .number ≢ 0
-    → Empty nodes edges (buildGives provable logic rules nodes edges)
-unfolding buildGives
-refused-zeros-build provable logic rules nodes edges n = after-empty rules nodes edges _ n
+  pub refused-zeros-build : (provable logic : ℕ) → buildGives provable logic rules commands nodes edges frames .number ≢ 0
+      → Empty nodes edges frames (buildGives provable logic rules commands nodes edges frames)
+  unfolding buildGives
+  refused-zeros-build provable logic n = after-empty _ n
 
 -- the check alone clears its work slice whatever it answers
 pub refused-zeros-verify : (provable logic : ℕ) (rules tokens list : List ℕ) (work : ℕ) → verifyGives provable logic rules tokens list work .work-words ≡ zeros work
@@ -367,28 +376,30 @@ pub lengths-kept-verify : (provable logic : ℕ) (rules tokens list : List ℕ) 
 unfolding verifyGives
 lengths-kept-verify provable logic rules tokens list work = length-replicate work 0
 
-module _ (provable logic : ℕ) (rules : List ℕ) (nodes edges : ℕ) where
-  abbrev BothKept : Built → Type 0
-  BothKept b = (length (b .node-words) ≡ nodes) × (length (b .edge-words) ≡ edges)
+module _ (provable logic : ℕ) (rules commands : List ℕ) (nodes edges frames : ℕ) where
+  abbrev AllKept : Built → Type 0
+  AllKept b = (length (b .node-words) ≡ nodes) × (length (b .edge-words) ≡ edges) × (length (b .frame-words) ≡ frames)
 
-  not-built-kept : (k : ℕ) → BothKept (notBuilt k nodes edges)
-  not-built-kept k = (length-replicate nodes 0, length-replicate edges 0)
+  not-built-kept : (k : ℕ) → AllKept (notBuilt k nodes edges frames)
+  not-built-kept k = (length-replicate nodes 0, length-replicate edges 0, length-replicate frames 0)
 
-  built-kept : rulesGood provable logic rules ≡ true → (o : Res Fault Grown) → grow (buildRoom nodes edges) (theRules rules) ≡ o → BothKept (builtBy nodes edges o)
+  built-kept : rulesGood provable logic rules ≡ true → (o : Res Fault Grown)
+      → garden.build (gardenBounds nodes edges frames) (theRules rules) (theCommands commands) ≡ o → AllKept (builtBy nodes edges frames o)
   unfolding builtBy
   built-kept r (no y) h = not-built-kept (faultNumber y)
   built-kept r (ok g) h =
-      let i = built-inv provable logic rules (buildRoom nodes edges) r g h in (
+      let i = built-inv provable logic rules (gardenBounds nodes edges frames) (theCommands commands) r g h in (
         padded-length (g .nodes) nodes (omega (arith, i .nodes-in, lesser-le nodes mostNodes .0)),
         padded-length (edgeWords (g .edges)) edges (omega (arith, edgeWords-length (g .edges), i .edges-in, lesser-le (edges / rowWidth) mostEdges .0)),
+        length-replicate frames 0,
       )
 
-  after-kept : (k : ℕ) → firstFault (demand (rulesGood provable logic rules) badRules ∷ []) ≡ k → BothKept (buildAfter rules nodes edges k)
+  after-kept : (k : ℕ) → firstFault (demand (rulesGood provable logic rules) badRules ∷ []) ≡ k → AllKept (buildAfter rules commands nodes edges frames k)
   unfolding buildAfter
   after-kept zero h = built-kept (clear _ badRules _ (omega arith) h .passed) _ refl
   after-kept (suc k) h = not-built-kept (suc k)
 
-  pub lengths-kept-build : BothKept (buildGives provable logic rules nodes edges)
+  pub lengths-kept-build : AllKept (buildGives provable logic rules commands nodes edges frames)
   unfolding buildGives
   lengths-kept-build = after-kept _ refl
 
@@ -401,32 +412,36 @@ nodesIn b = take (b .nodes) (b .node-words)
 abbrev pub edgesIn : Built → List ℕ
 edgesIn b = take (rowWidth * b .edges) (b .edge-words)
 
-module _ (provable logic : ℕ) (rules : List ℕ) (nodes edges : ℕ) where
+fault-not-0 : (y : Fault) → faultNumber y ≢ 0
+unfolding faultNumber
+fault-not-0 collides e = omega arith
+fault-not-0 noNode e = omega arith
+fault-not-0 noEdge e = omega arith
+fault-not-0 sixthReduce e = omega arith
+fault-not-0 farOffset e = omega arith
+fault-not-0 badCopy e = omega arith
+fault-not-0 manyRows e = omega arith
+fault-not-0 noClone e = omega arith
+
+module _ (provable logic : ℕ) (rules commands : List ℕ) (nodes edges frames : ℕ) where
   abbrev Good : Built → Type 0
   Good b = b .number ≡ 0 → tablesGood (length (theRules rules)) (nodesIn b) (edgesIn b) ≡ true
 
-  fault-not-0 : (y : Fault) → faultNumber y ≢ 0
-  unfolding faultNumber
-  fault-not-0 collides e = omega arith
-  fault-not-0 noNode e = omega arith
-  fault-not-0 noEdge e = omega arith
-  fault-not-0 sixthReduce e = omega arith
-  fault-not-0 badCopy e = omega arith
-
-  built-good : rulesGood provable logic rules ≡ true → (o : Res Fault Grown) → grow (buildRoom nodes edges) (theRules rules) ≡ o → Good (builtBy nodes edges o)
+  built-good : rulesGood provable logic rules ≡ true → (o : Res Fault Grown)
+      → garden.build (gardenBounds nodes edges frames) (theRules rules) (theCommands commands) ≡ o → Good (builtBy nodes edges frames o)
   unfolding builtBy
   built-good r (no y) h e = absurd (fault-not-0 y e)
   built-good r (ok g) h e = rw (
     take-at (g .nodes) (zeros (nodes - length (g .nodes))) (length (g .nodes)) refl,
     take-at (edgeWords (g .edges)) (zeros (edges - length (edgeWords (g .edges)))) (rowWidth * length (g .edges)) (edgeWords-length (g .edges)),
-  ) (built-tables-pass provable logic rules (buildRoom nodes edges) (lesser-le nodes mostNodes .1) (lesser-le (edges / rowWidth) mostEdges .1) r g h)
+  ) (built-tables-pass provable logic rules (gardenBounds nodes edges frames) (theCommands commands) (lesser-le nodes mostNodes .1) (lesser-le (edges / rowWidth) mostEdges .1) r g h)
 
-  after-good : (k : ℕ) → firstFault (demand (rulesGood provable logic rules) badRules ∷ []) ≡ k → Good (buildAfter rules nodes edges k)
+  after-good : (k : ℕ) → firstFault (demand (rulesGood provable logic rules) badRules ∷ []) ≡ k → Good (buildAfter rules commands nodes edges frames k)
   unfolding buildAfter
   after-good zero h e = built-good (clear _ badRules _ (omega arith) h .passed) _ refl e
   after-good (suc k) h e = absurd (omega arith)
 
-  pub built-passes : Good (buildGives provable logic rules nodes edges)
+  pub built-passes : Good (buildGives provable logic rules commands nodes edges frames)
   unfolding buildGives
   built-passes = after-good _ refl
 
@@ -446,13 +461,36 @@ not-8 true true ds h r = r
 not-8 true false ds h r = λ e. false≢true (h refl)
 not-8 false c ds h r = λ e. omega arith
 
-pub built-tables-pass-parse : (provable logic : ℕ) (rules : List ℕ) (nodes edges : ℕ) → let b = buildGives provable logic rules nodes edges in
+pub built-tables-pass-parse : (provable logic : ℕ) (rules commands : List ℕ) (nodes edges frames : ℕ) → let b = buildGives provable logic rules commands nodes edges frames in
     b .number ≡ 0 → (tokens : List ℕ) (a : ℕ) (s : Lent) → parseGives (askedOf provable logic rules b tokens) a s .number ≢ badTables
 unfolding parseGives parsed walkOf
-built-tables-pass-parse provable logic rules nodes edges e tokens a s =
-    let q = askedOf provable logic rules (buildGives provable logic rules nodes edges) tokens in
+built-tables-pass-parse provable logic rules commands nodes edges frames e tokens a s =
+    let q = askedOf provable logic rules (buildGives provable logic rules commands nodes edges frames) tokens in
     after-by q (λ w. w .number ≢ badTables) a (walkRoom s) (firstFault (parseDemands q)) (λ z. not-walked q a (walkRoom s) (demands-passed q z))
-    λ z. not-8 _ _ _ (λ r. built-passes provable logic rules nodes edges e) (fault-is (λ k. k ≢ badTables) (λ e. omega arith) (one-more (λ e. omega arith) (one-more (λ e. omega arith) none-left)))
+    λ z. not-8 _ _ _ (λ r. built-passes provable logic rules commands nodes edges frames e) (fault-is (λ k. k ≢ badTables) (λ e. omega arith) (one-more (λ e. omega arith) (one-more (λ e. omega arith) none-left)))
+
+-- ---- what a build is refused with, and what garden says
+
+-- a fault by its number
+unfoldable faultAt : ℕ → Fault
+faultAt k = pick (eqb k 11) collides (pick (eqb k 12) noNode (pick (eqb k 13) noEdge (pick (eqb k 14) sixthReduce (pick (eqb k 15) farOffset
+    (pick (eqb k 16) badCopy (pick (eqb k 17) manyRows noClone))))))
+
+fault-at : (y : Fault) → faultAt (faultNumber y) ≡ y
+unfolding faultAt faultNumber
+fault-at collides = refl
+fault-at noNode = refl
+fault-at noEdge = refl
+fault-at sixthReduce = refl
+fault-at farOffset = refl
+fault-at badCopy = refl
+fault-at manyRows = refl
+fault-at noClone = refl
+
+faulted : (nodes edges frames : ℕ) (y : Fault) (o : Res Fault Grown) → (builtBy nodes edges frames o .number ≡ faultNumber y) ↔ (o ≡ no y)
+unfolding builtBy
+faulted nodes edges frames y (ok g) = (λ e. absurd (fault-not-0 y (sym e)), λ e. let z : _≡_ {A = ℕ} 0 1 = cc in absurd (omega arith))
+faulted nodes edges frames y (no x) = (λ e. ap no (sym (fault-at x) ∙ ap faultAt e ∙ fault-at y), λ e. cc)
 
 -- ---- collide-exactly: a build answers 11 exactly if a body equals, begins or continues an earlier placed one
 
@@ -461,25 +499,78 @@ bodied : (R : List Rule) → Proper R → (r : Rule) → Among r R → r .body �
 bodied R a r (first S) e = omega (arith, a .0 .some-item, ap length e)
 bodied R a r (later p S i) e = bodied S (a .1) r i e
 
-fault-of : Res Fault Grown → ℕ
-fault-of (ok g) = 0
-fault-of (no y) = faultNumber y
-
-eleven-by : (nodes edges : ℕ) (o : Res Fault Grown) → (builtBy nodes edges o .number ≡ 11) ↔ (o ≡ no collides)
-unfolding builtBy faultNumber fault-of
-eleven-by nodes edges (ok g) = (λ e. absurd (omega arith), λ e. let z : _≡_ {A = ℕ} 0 1 = cc in absurd (omega arith))
-eleven-by nodes edges (no collides) = (λ e. refl, λ e. refl)
-eleven-by nodes edges (no noNode) = (λ e. absurd (omega arith), λ e. omega (arith, ap fault-of e))
-eleven-by nodes edges (no noEdge) = (λ e. absurd (omega arith), λ e. omega (arith, ap fault-of e))
-eleven-by nodes edges (no sixthReduce) = (λ e. absurd (omega arith), λ e. omega (arith, ap fault-of e))
-eleven-by nodes edges (no badCopy) = (λ e. absurd (omega arith), λ e. omega (arith, ap fault-of e))
-
-pub collide-exactly : (provable logic : ℕ) (rules : List ℕ) (nodes edges : ℕ) → rulesGood provable logic rules ≡ true → 1 ≤ nodes
-    → (buildGives provable logic rules nodes edges .number ≡ 11) ↔ Collision (buildRoom nodes edges) (theRules rules)
-unfolding buildGives buildAfter
-collide-exactly provable logic rules nodes edges h n =
-    let c = grow-collides (buildRoom nodes edges) (theRules rules) (bodied (theRules rules) (rules-proper provable logic rules h)) in
-    let m = eleven-by nodes edges (grow (buildRoom nodes edges) (theRules rules)) in
+pub collide-exactly : (provable logic : ℕ) (rules commands : List ℕ) (nodes edges frames : ℕ) → rulesGood provable logic rules ≡ true → 1 ≤ nodes
+    → (buildGives provable logic rules commands nodes edges frames .number ≡ 11) ↔ Collision (buildRoom nodes edges) (theRules rules)
+unfolding buildGives buildAfter faultNumber
+collide-exactly provable logic rules commands nodes edges frames h n =
+    let b = gardenBounds nodes edges frames in
+    let c = build-collides b (theRules rules) (theCommands commands) (bodied (theRules rules) (rules-proper provable logic rules h)) in
+    let m = faulted nodes edges frames collides (garden.build b (theRules rules) (theCommands commands)) in
     let z : 1 ≤ lesser nodes mostNodes = lesser-is nodes mostNodes 1 n (omega arith) in
     let e : firstFault (demand (rulesGood provable logic rules) badRules ∷ []) ≡ 0 = met h badRules [] ∙ none-fails in
     rw e (λ k. c .0 (m .0 k) .1, λ k. m .1 (c .1 (z, k)))
+
+-- ---- no-commands-build: without command words, and with the conversions alone, whatever the frames, a build is the tree of the rules
+
+-- the tree of good rules
+abbrev pub plainly : ℕ → ℕ → List ℕ → ℕ → ℕ → ℕ → Built
+plainly provable logic rules nodes edges frames = pick (rulesGood provable logic rules)
+    (builtBy nodes edges frames (grow (buildRoom nodes edges) (theRules rules))) (notBuilt badRules nodes edges frames)
+
+module _ (rules commands : List ℕ) (nodes edges frames : ℕ) where
+  plain-by : garden.build (gardenBounds nodes edges frames) (theRules rules) (theCommands commands) ≡ grow (buildRoom nodes edges) (theRules rules) → (b : Bool)
+      → buildAfter rules commands nodes edges frames (firstFault (demand b badRules ∷ []))
+      ≡ pick b (builtBy nodes edges frames (grow (buildRoom nodes edges) (theRules rules))) (notBuilt badRules nodes edges frames)
+  unfolding buildAfter firstFault
+  plain-by e true = ap (builtBy nodes edges frames) e
+  plain-by e false = refl
+
+pub no-commands-build : (provable logic : ℕ) (rules : List ℕ) (nodes edges frames : ℕ)
+    → (buildGives provable logic rules [] nodes edges frames ≡ plainly provable logic rules nodes edges frames)
+    × (buildGives provable logic rules (2 ∷ []) nodes edges frames ≡ plainly provable logic rules nodes edges frames)
+unfolding buildGives
+no-commands-build provable logic rules nodes edges frames =
+    let b = gardenBounds nodes edges frames in (
+      plain-by rules [] nodes edges frames (no-commands b (theRules rules)) (rulesGood provable logic rules),
+      plain-by rules (2 ∷ []) nodes edges frames (conversions-alone b (theRules rules)) (rulesGood provable logic rules),
+    )
+
+-- ---- more-frames: a longer frame slice changes nothing but its own zeros, unless there was no frame for a clone (6)
+
+-- the same, with so many words of frames
+abbrev pub framed : ℕ → Built → Built
+framed n b = record { number = b .number; nodes = b .nodes; edges = b .edges; node-words = b .node-words; edge-words = b .edge-words; frame-words = zeros n }
+
+module _ (rules commands : List ℕ) (nodes edges frames : ℕ) where
+  built-framed : (n : ℕ) (o : Res Fault Grown) → builtBy nodes edges n o ≡ framed n (builtBy nodes edges frames o)
+  unfolding builtBy
+  built-framed n (ok g) = refl
+  built-framed n (no y) = refl
+
+  more-by : (n : ℕ) → frames ≤ n → (b : Bool) → buildAfter rules commands nodes edges frames (firstFault (demand b badRules ∷ [])) .number ≢ 6
+      → buildAfter rules commands nodes edges n (firstFault (demand b badRules ∷ []))
+      ≡ framed n (buildAfter rules commands nodes edges frames (firstFault (demand b badRules ∷ [])))
+  unfolding buildAfter firstFault faultNumber
+  more-by n h true d =
+      let m = faulted nodes edges frames noClone (garden.build (gardenBounds nodes edges frames) (theRules rules) (theCommands commands)) in
+      let e = clones.more-frames (gardenBounds nodes edges frames) (n / rowWidth) (omega arith) (theRules rules) (theCommands commands) λ e. d (m .1 e) in
+      ap (builtBy nodes edges n) e ∙ built-framed n _
+  more-by n h false d = refl
+
+  pub more-frames : (provable logic n : ℕ) → frames ≤ n → buildGives provable logic rules commands nodes edges frames .number ≢ 6
+      → buildGives provable logic rules commands nodes edges n ≡ framed n (buildGives provable logic rules commands nodes edges frames)
+  unfolding buildGives
+  more-frames provable logic n h d = more-by n h (rulesGood provable logic rules) d
+
+-- ---- frames-enough-build: with 16,385 frames, one more than the rows that a garden path may take up, a build is never refused with 6
+
+module _ (rules commands : List ℕ) (nodes edges frames : ℕ) (h : rowWidth * suc mostTaken ≤ frames) where
+  enough-by : (b : Bool) → buildAfter rules commands nodes edges frames (firstFault (demand b badRules ∷ [])) .number ≢ 6
+  unfolding buildAfter firstFault faultNumber
+  enough-by true e = refusals.frames-enough (gardenBounds nodes edges frames) (omega arith) (theRules rules) (theCommands commands)
+      (faulted nodes edges frames noClone (garden.build (gardenBounds nodes edges frames) (theRules rules) (theCommands commands)) .0 e)
+  enough-by false e = omega arith
+
+  pub frames-enough-build : (provable logic : ℕ) → buildGives provable logic rules commands nodes edges frames .number ≢ 6
+  unfolding buildGives
+  frames-enough-build provable logic = enough-by (rulesGood provable logic rules)

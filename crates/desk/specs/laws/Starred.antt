@@ -19,7 +19,7 @@ pub data Row : Type 0 where
 
 -- room for every set of the sheet
 unfoldable pub built : List ℕ → Built
-built set = buildGives 1 2 set 40 480
+built set = buildGives 1 2 set [] 40 480 0
 
 -- a build's tables, cut to its counts, and a statement
 unfoldable pub asks : List ℕ → List ℕ → Built → Asked

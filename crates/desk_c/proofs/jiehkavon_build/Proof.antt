@@ -10,4 +10,5 @@ jiehkavon-build-spec =
     (λ c κs. search needs)
     (λ c. search needs)
     (λ c. search needs)
-    (λ c. rw (c .before .before .before .before .before .before .before .codes-of .ensures) at (c .before .before .before .before .build .ensures)))
+    (λ c. search needs)
+    (λ c. rw (c .before .before .before .before .before .before .before .before .before .before .codes-of .ensures) at (c .before .before .before .before .before .before .build .ensures)))

@@ -12,12 +12,12 @@ use Rattle.words.specs.Counted.{counted}
 use Rattle.words.specs.Numbers.{accepted, noRoom, badRules, cutShort, unknownKind, wrongSize, wrongOrder}
 use Rattle.words.specs.Outcome.{Res, ok, no, demand, firstFault}
 use Rattle.words.specs.laws.Faults.{clear, Each, none-left, one-more, fault-is}
+use Rattle.words.specs.laws.Parts.{padded-length}
 use Rattle.words.specs.laws.Tests.{by-test}
 use Rattle.rules.specs.Rules.{rulesGood}
 use Rattle.package.specs.Package.{Package, theEnd, kindOf, recordDemands, Refusal, refusal, ended, afterHead, scan, says, Read, notRead, readDemands, readAfter, readBy, readGives}
 use Rattle.package.specs.laws.Records.{after-record}
 use Rattle.package.specs.laws.Few.{says-few}
-use Rattle.package.specs.laws.Writes.{padded-length}
 
 -- ---- bytes that are refused are refused with 20 or more
 

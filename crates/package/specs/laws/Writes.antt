@@ -15,6 +15,7 @@ use Rattle.words.specs.Numbers.{accepted, noRoom, badRules, wrongSize}
 use Rattle.words.specs.Outcome.{Res, ok, no, pick, Demand, demand, firstFault}
 use Rattle.words.specs.laws.Counted.{lists-whole}
 use Rattle.words.specs.laws.Faults.{met, unmet, clear}
+use Rattle.words.specs.laws.Parts.{padded-length}
 use Rattle.words.specs.laws.Tests.{by-test}
 use Rattle.rules.specs.Rules.{theRules, goodRules, rulesGood}
 use Rattle.rules.specs.laws.Words.{rules-good}
@@ -113,9 +114,6 @@ unfolding writeGives
 refused-zeros-write p l rs ss room = by-test (λ g. Empty room g) (rulesGood p l rs) (λ _. empty-by p l rs room (listsOf ss)) λ _ h. refl
 
 -- ---- lengths-kept: the bytes come back as many as they were lent
-
-pub padded-length : (xs : List ℕ) (n : ℕ) → length xs ≤ n → length (padded xs n) ≡ n
-padded-length xs n h = length-append xs (zeros (n - length xs)) ∙ ap (λ (k : ℕ). length xs + k) (length-replicate (n - length xs) 0) ∙ omega arith
 
 module _ (p l : ℕ) (rs ss : List ℕ) (room : ℕ) where
   kept-by : (k : ℕ) → writeGives p l rs ss room .number ≡ k → length (writeGives p l rs ss room .bytes) ≡ room

@@ -20,7 +20,7 @@ use Rattle.rules.specs.laws.Proper.{ItemOk, RuleOk, Proper, rules-proper}
 use Rattle.rows.specs.Rows.{Reduce, Edge, edgeWords, withReduce, tablesGood}
 use Rattle.rows.specs.laws.Fair.{ReduceOk, RowOk, Fair, Found, find-found}
 use Rattle.rows.specs.laws.Words.{fair-pass}
-use Rattle.tree.specs.Grow.{Grown, Room, kind, sym, branchAt, addEdge, addNode, placeLast, placeInner, place, placeRule, placeRules, addConverted, converted, offsetOn, copyRow, copyBranches, apart, convertTo, convertAt, convertNodes, convert, convertAll, rootAlone, grow}
+use Rattle.tree.specs.Grow.{Grown, Room, kind, sym, branchAt, addEdge, addNode, placeLast, placeInner, place, placeRule, placeRules, addConverted, converted, offsetOn, copyRow, copyBranches, apart, convertTo, convertAt, convertNodes, convert, convertAll, rootAlone, plant, grow}
 
 -- fair tables that the room holds
 pub record Inv (rules : ℕ) (z : Room) (g : Grown) : Type 0 where
@@ -29,7 +29,7 @@ pub record Inv (rules : ℕ) (z : Room) (g : Grown) : Type 0 where
   pub edges-in : length (g .edges) ≤ z .edges
 
 -- one more node changes no row
-row-grows : (rules : ℕ) (ns : List ℕ) (w : ℕ) (e : Edge) → RowOk rules ns e → RowOk rules (ns ++ w ∷ []) e
+pub row-grows : (rules : ℕ) (ns : List ℕ) (w : ℕ) (e : Edge) → RowOk rules ns e → RowOk rules (ns ++ w ∷ []) e
 row-grows rules ns w e r = record {
   from-in = simp length-append (omega (arith, r .from-in));
   from-branch = List·getD-append ns (w ∷ []) 0 (e .from) (r .from-in) ∙ r .from-branch;
@@ -44,22 +44,22 @@ row-grows rules ns w e r = record {
 
 -- ---- a result that has P, if it is no refusal
 
-abbrev Keeps : (Grown → Type 0) → Res Fault Grown → Type 0
+abbrev pub Keeps : {A : Type 0} → (A → Type 0) → Res Fault A → Type 0
 Keeps P (no y) = Unit {0}
 Keeps P (ok g) = P g
 
-module _ (P : Grown → Type 0) where
-  bind-keeps : {A : Type 0} (b : Bool) (y : Fault) (a : A) (f : A → Res Fault Grown) → (b ≡ true → Keeps P (f a)) → Keeps P (bind (when b y a) f)
+module _ {B : Type 0} (P : B → Type 0) where
+  pub bind-keeps : {A : Type 0} (b : Bool) (y : Fault) (a : A) (f : A → Res Fault B) → (b ≡ true → Keeps P (f a)) → Keeps P (bind (when b y a) f)
   unfolding bind when
   bind-keeps true y a f h = h refl
   bind-keeps false y a f h = tt
 
-  when-keeps : (b : Bool) (y : Fault) (g : Grown) → (b ≡ true → P g) → Keeps P (when b y g)
+  pub when-keeps : (b : Bool) (y : Fault) (g : B) → (b ≡ true → P g) → Keeps P (when b y g)
   unfolding when
   when-keeps true y g h = h refl
   when-keeps false y g h = tt
 
-  then-keeps : (Q : Grown → Type 0) (x : Res Fault Grown) (f : Grown → Res Fault Grown) → Keeps Q x → ((g : Grown) → Q g → Keeps P (f g)) → Keeps P (bind x f)
+  pub then-keeps : {A : Type 0} (Q : A → Type 0) (x : Res Fault A) (f : A → Res Fault B) → Keeps Q x → ((a : A) → Q a → Keeps P (f a)) → Keeps P (bind x f)
   unfolding bind
   then-keeps Q (ok g) f k h = h g k
   then-keeps Q (no y) f k h = tt
@@ -96,7 +96,7 @@ plus g e = record { nodes = g .nodes; edges = g .edges ++ e ∷ [] }
 
 module _ (rules : ℕ) (z : Room) where
   -- an edge that there is room for
-  edge-keeps : (P : Grown → Type 0) (g : Grown) (e : Edge) → Inv rules z g → RowOk rules (g .nodes) e
+  pub edge-keeps : (P : Grown → Type 0) (g : Grown) (e : Edge) → Inv rules z g → RowOk rules (g .nodes) e
       → (Inv rules z (plus g e) → P (plus g e)) → Keeps P (addEdge z g e)
   unfolding addEdge
   edge-keeps P g e v r h = when-keeps P (ltb (length (g .edges)) (z .edges)) noEdge _ λ t. h (record {
@@ -110,7 +110,7 @@ module _ (rules : ℕ) (z : Room) where
     edges-in = simp length-append (omega (arith, ltb-true));
   })
 
-  node-inv : (g : Grown) (w : ℕ) → Inv rules z g → w ≤ rules → length (g .nodes) < z .nodes → Inv rules z (record { nodes = g .nodes ++ w ∷ []; edges = g .edges })
+  pub node-inv : (g : Grown) (w : ℕ) → Inv rules z g → w ≤ rules → length (g .nodes) < z .nodes → Inv rules z (record { nodes = g .nodes ++ w ∷ []; edges = g .edges })
   node-inv g w v h m = record {
     fair = record {
       some-node = simp length-append (omega arith);
@@ -207,7 +207,7 @@ module _ (rules : ℕ) (z : Room) where
   offset-small zero = omega arith
   offset-small (suc k) = omega arith
 
-  abbrev Same : List ℕ → Grown → Type 0
+  abbrev pub Same : List ℕ → Grown → Type 0
   Same ns g = Inv rules z g × (g .nodes ≡ ns)
 
   module _ (ns : List ℕ) (c : ℕ) (lo : 1 ≤ c) (hi : c ≤ rules) where
@@ -273,7 +273,7 @@ module _ (rules : ℕ) (z : Room) where
   convert-keeps c q g none e lo hi a v = v
   convert-keeps c q g (some u) e lo hi a v = nodes-keep c lo hi u (source-symbol (q .body) u (a .items-ok) e) (q .result) (length (g .nodes)) 0 g v
 
-  all-keep : (c : ℕ) (R : List Rule) (g : Grown) → 1 ≤ c → c + length R ≡ suc rules → Proper R → Inv rules z g → Keeps (Inv rules z) (convertAll z c R g)
+  pub all-keep : (c : ℕ) (R : List Rule) (g : Grown) → 1 ≤ c → c + length R ≡ suc rules → Proper R → Inv rules z g → Keeps (Inv rules z) (convertAll z c R g)
   unfolding convertAll
   all-keep c [] g lo n a v = v
   all-keep c (q ∷ R) g lo n a v = then-keeps (Inv rules z) (Inv rules z) _ _ (convert-keeps c q g _ refl lo (omega arith) (a .0) v)
@@ -281,15 +281,19 @@ module _ (rules : ℕ) (z : Room) where
 
 -- ---- the whole
 
-grow-keeps : (z : Room) (R : List Rule) → Proper R → Keeps (Inv (length R) z) (grow z R)
-unfolding grow
-grow-keeps z R a = bind-keeps (Inv (length R) z) (ltb 0 (z .nodes)) noNode rootAlone _ λ t.
+pub plant-keeps : (z : Room) (R : List Rule) → Proper R → Keeps (Inv (length R) z) (plant z R)
+unfolding plant
+plant-keeps z R a = bind-keeps (Inv (length R) z) (ltb 0 (z .nodes)) noNode rootAlone _ λ t.
     let v : Inv (length R) z rootAlone = record {
       fair = record { some-node = omega arith; root = refl; words = (omega arith, tt); rows = tt };
       nodes-in = ltb-true 0 (z .nodes) t;
       edges-in = omega arith;
     } in
-    then-keeps (Inv (length R) z) (Inv (length R) z) (placeRules z 1 R rootAlone) _ (rules-keep (length R) z 1 R rootAlone (omega arith) a v)
+    rules-keep (length R) z 1 R rootAlone (omega arith) a v
+
+grow-keeps : (z : Room) (R : List Rule) → Proper R → Keeps (Inv (length R) z) (grow z R)
+unfolding grow
+grow-keeps z R a = then-keeps (Inv (length R) z) (Inv (length R) z) (plant z R) _ (plant-keeps z R a)
     λ g v. all-keep (length R) z 1 R g (omega arith) (omega arith) a v
 
 pub grown-inv : (z : Room) (R : List Rule) → Proper R → (g : Grown) → grow z R ≡ ok g → Inv (length R) z g

@@ -17,7 +17,7 @@ use Rattle.words.specs.laws.Tests.{and-l, and-r}
 use Rattle.rules.specs.Rules.{Item, con, slot, Rule, source}
 use Rattle.rows.specs.Rows.{Reduce, Edge, keyed, find}
 use Rattle.rows.specs.laws.Lookup.{orElse, find-append, find-kept, find-new}
-use Rattle.tree.specs.Grow.{Grown, Room, kind, sym as symOf, edgeFor, branchAt, addEdge, addNode, placeLast, placeInner, place, placeRule, placeRules, rootAlone, grow}
+use Rattle.tree.specs.Grow.{Grown, Room, kind, sym as symOf, edgeFor, branchAt, addEdge, addNode, placeLast, placeInner, place, placeRule, placeRules, rootAlone, plant, grow}
 use Rattle.tree.specs.Grow.{addConverted, copyRow, copyBranches, convertTo, convertAt, convertNodes, convert, convertAll}
 
 same-item : (i j : Item) → kind i ≡ kind j → symOf i ≡ symOf j → i ≡ j
@@ -560,13 +560,12 @@ then-no : {x : Res Fault Grown} (f : Grown → Res Fault Grown) → x ≡ no col
 unfolding bind
 then-no f e = rw e refl
 
--- a build answers 11 exactly if a body collides with an earlier one's and those before it have room
-pub grow-collides : (z : Room) (R : List Rule) → ((q : Rule) → Among q R → q .body ≢ []) → (grow z R ≡ no collides) ↔ ((0 < z .nodes) × Collision z R)
-unfolding grow placeRules placeRule faultNumber
-grow-collides z R x = (
-  after-no (after-when _ _ _ noNode rootAlone _ (λ t. after-bind _ _ _ (after (λ g _. after (λ _ u. u) absurd (all-never z 1 R g)) (λ c. (ltb-true 0 (z .nodes) t, c))
-      (rules-no z R x R [] 1 rootAlone refl refl refl))) λ _. other noNode λ e. omega arith),
-  λ k. passed _ noNode rootAlone _ (lt-ltb 0 (z .nodes) (k .0)) (then-no _ (back (k .1))),
+-- planting answers 11 exactly if a body collides with an earlier one's and those before it have room
+pub plant-collides : (z : Room) (R : List Rule) → ((q : Rule) → Among q R → q .body ≢ []) → (plant z R ≡ no collides) ↔ ((0 < z .nodes) × Collision z R)
+unfolding plant placeRules placeRule faultNumber
+plant-collides z R x = (
+  after-no (after-when _ _ _ noNode rootAlone _ (λ t. after (λ _ u. u) (λ c. (ltb-true 0 (z .nodes) t, c)) (rules-no z R x R [] 1 rootAlone refl refl refl)) λ _. other noNode λ e. omega arith),
+  λ k. passed _ noNode rootAlone _ (lt-ltb 0 (z .nodes) (k .0)) (back (k .1)),
 )
   where
     back : Collision z R → placeRules z 1 R rootAlone ≡ no collides
@@ -575,3 +574,11 @@ grow-collides z R x = (
         rw (← w) (rules-append z (c .earlier) (c .rule ∷ c .others) 1 rootAlone (c .tree) (c .placed) ∙ then-no _ (rw (c .placeable)
         (collide-exactly z (c .earlier) (c .tree) (λ u a. x u (rw w at (among-l u (c .earlier) (c .rule ∷ c .others) a))) (c .placed) z _ (c .rule .body)
         (x (c .rule) (rw w at (among-r (c .rule) (c .earlier) (c .others)))) .1 (c .collision))))
+
+-- a build answers 11 exactly if a body collides with an earlier one's and those before it have room
+pub grow-collides : (z : Room) (R : List Rule) → ((q : Rule) → Among q R → q .body ≢ []) → (grow z R ≡ no collides) ↔ ((0 < z .nodes) × Collision z R)
+unfolding grow
+grow-collides z R x = (
+  λ e. plant-collides z R x .0 (after-no (after-bind _ _ _ (after (λ g _. after (λ _ u. u) absurd (all-never z 1 R g)) (λ h. h) (itself (plant z R)))) e),
+  λ k. then-no _ (plant-collides z R x .1 k),
+)

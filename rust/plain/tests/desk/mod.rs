@@ -32,12 +32,21 @@ pub struct Grown {
 }
 
 pub fn build_in(rules: &[u32], nodes: usize, edges: usize) -> Grown {
-    let (mut nodes, mut edges) = (vec![GARBAGE; nodes], vec![GARBAGE; edges]);
-    let built = plain::build(1, 2, rules, &mut nodes, &mut edges);
+    build_with(rules, &[], 0, nodes, edges)
+}
+
+/// Room in words.
+pub fn build_with(rules: &[u32], commands: &[u32], frames: usize, nodes: usize, edges: usize) -> Grown {
+    let [mut frames, mut nodes, mut edges] = [frames, nodes, edges].map(|length| vec![GARBAGE; length]);
+    let built = plain::build(1, 2, rules, commands, &mut nodes, &mut edges, &mut frames);
     let zero_from = |words: &[u32], from: u32| words[from as usize..].iter().all(|&word| word == 0);
     assert!(
-        zero_from(&nodes, built.nodes) && zero_from(&edges, 16 * built.edges),
+        zero_from(&frames, 0) && zero_from(&nodes, built.nodes) && zero_from(&edges, 16 * built.edges),
         "zeros past the rows"
+    );
+    assert!(
+        built.number == 0 || (built.nodes, built.edges) == (0, 0),
+        "no counts with a refusal"
     );
     Grown { built, nodes, edges }
 }
@@ -61,8 +70,12 @@ pub struct Desk {
 
 impl Desk {
     pub fn grown(text: &str) -> Desk {
+        Desk::grown_with(text, &[])
+    }
+
+    pub fn grown_with(text: &str, commands: &[u32]) -> Desk {
         let rules = rules(text);
-        let mut grown = build_in(&rules, 9_000, 16 * 17_000);
+        let mut grown = build_with(&rules, commands, 16 * 100, 9_000, 16 * 17_000);
         assert_eq!(grown.built.number, 0, "{text}");
         grown.nodes.truncate(grown.built.nodes as usize);
         grown.edges.truncate(16 * grown.built.edges as usize);

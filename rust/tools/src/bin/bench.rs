@@ -1,7 +1,8 @@
 //! Times build, parse and verify, and reading and writing a package: the proved library, the plain Rust with the same entry points, for the
 //! former the plain Rust with rules and tables read once, and, with `--oracle [NAME=]COMMAND`, the published Rust behind its line driver. A
 //! benchmark and no test: it prints tables of medians and judges nothing, save that library and plain Rust must give the same answers.
-//! `--database FILE` names a Metamath database to take statements from.
+//! `--database FILE` names a Metamath database to take statements from, and `--paths FOLDER` has a text of commands for it (`set.mm.txt` for
+//! `set.mm`), with which it is taken once more.
 
 use jiehkavon::{NotASymbol, Package};
 use std::fmt::Write as _;
@@ -10,14 +11,14 @@ use std::hint::black_box;
 use std::process::{Command, ExitCode, Stdio};
 use tools::metamath::Database;
 use tools::tables;
-use tools::timing::{median, time, REPETITIONS};
+use tools::timing::{least, median, time, REPETITIONS};
 
 /// Of a database's statements one in so many is used.
 const STEP: usize = 100;
 
 // ---- what is timed
 
-type Build = fn(u32, u32, &[u32], &mut [u32], &mut [u32]) -> [u32; 3];
+type Build = fn(u32, u32, &[u32], &[u32], &mut [u32], &mut [u32], &mut [u32]) -> [u32; 3];
 #[allow(clippy::type_complexity)]
 type Parse = fn(u32, u32, &[u32], &[u32], &[u32], &[u32], u32, &mut [u32], &mut [u32], &mut [u32]) -> [u32; 4];
 type Verify = fn(u32, u32, &[u32], &[u32], &[u32], &mut [u32]) -> u32;
@@ -43,8 +44,8 @@ macro_rules! core {
         Core {
             name: $name,
             body: |p, l, r, n| of::body(p, l, r, n).length,
-            build: |p, l, r, n, e| {
-                let b = of::build(p, l, r, n, e);
+            build: |p, l, r, c, n, e, f| {
+                let b = of::build(p, l, r, c, n, e, f);
                 [b.number, b.nodes, b.edges]
             },
             parse: |p, l, r, n, e, t, a, f, o, w| {
@@ -69,25 +70,41 @@ struct Case {
     provable: u32,
     logic: u32,
     rules: Vec<u32>,
+    commands: Vec<u32>,
     nodes: Vec<u32>,
     edges: Vec<u32>,
     statements: Vec<Vec<u32>>,
 }
 
+/// Words of frames that a build with commands is lent: 256, as the crate does.
+const FRAMES: usize = 256 * 16;
+
 impl Case {
     fn new(provable: u32, logic: u32, rules: Vec<u32>, statements: Vec<Vec<u32>>) -> Self {
+        Case::with_commands(provable, logic, rules, vec![], statements)
+    }
+
+    fn with_commands(provable: u32, logic: u32, rules: Vec<u32>, commands: Vec<u32>, statements: Vec<Vec<u32>>) -> Self {
         let (mut nodes, mut edges) = tables::longest();
-        let built = jiehkavon::words::build(provable, logic, &rules, &mut nodes, &mut edges);
+        let mut frames = vec![0; FRAMES];
+        let built = jiehkavon::words::build(provable, logic, &rules, &commands, &mut nodes, &mut edges, &mut frames);
         assert_eq!(built.number, 0, "the rules build");
         tables::cut(built, &mut nodes, &mut edges);
         Case {
             provable,
             logic,
             rules,
+            commands,
             nodes,
             edges,
             statements,
         }
+    }
+
+    /// Slices that are as long as the tables, and frames if there are commands.
+    fn lent(&self) -> [Vec<u32>; 3] {
+        let frames = if self.commands.is_empty() { 0 } else { FRAMES };
+        [self.nodes.len(), self.edges.len(), frames].map(|length| vec![0; length])
     }
 
     fn longest(&self) -> usize {
@@ -107,7 +124,27 @@ impl Case {
             let words = &self.rules[at..at + 2 + 2 * self.rules[at + 1] as usize];
             lines += &line("rule", words);
         }
-        lines + "conv\nbuild\n"
+        lines + &self.command_lines() + "build\n"
+    }
+
+    /// Conversions that no command asks for are run last here and not at all there.
+    fn command_lines(&self) -> String {
+        let (mut lines, mut converted) = (String::new(), false);
+        let mut rest = &self.commands[..];
+        while let [first, after @ ..] = rest {
+            rest = after;
+            if *first == 2 {
+                lines += "conv\n";
+                converted = true;
+                continue;
+            }
+            let (prefix, shadow) = (after[0], after[1]);
+            let (pairs, others) = after[2..].split_at(2 * prefix as usize);
+            let (more, others) = others.split_at(2 * shadow as usize);
+            lines += &line("gp", &[&[prefix], pairs, &[shadow], more].concat());
+            rest = others;
+        }
+        lines + if converted { "" } else { "conv\n" }
     }
 
     fn parse_lines(&self) -> String {
@@ -205,10 +242,19 @@ impl Core {
     }
 
     fn build(&self, case: &Case) -> f64 {
-        let (mut nodes, mut edges) = (vec![0; case.nodes.len()], vec![0; case.edges.len()]);
-        time(|| {
-            black_box((self.build)(case.provable, case.logic, &case.rules, &mut nodes, &mut edges));
-        })
+        let mut lent = case.lent();
+        time(|| self.build_in(case, &mut lent))
+    }
+
+    fn build_in(&self, case: &Case, [nodes, edges, frames]: &mut [Vec<u32>; 3]) {
+        let built = (self.build)(case.provable, case.logic, &case.rules, &case.commands, nodes, edges, frames);
+        assert_eq!(black_box(built)[0], 0, "it was built before");
+    }
+
+    /// Two builds in turn.
+    fn builds(&self, one: &Case, other: &Case) -> [f64; 2] {
+        let (mut lent, mut more) = (one.lent(), other.lent());
+        least(|| self.build_in(one, &mut lent), || self.build_in(other, &mut more))
     }
 
     /// Parses with so many passes allowed for each token.
@@ -458,6 +504,19 @@ impl Bench {
         );
     }
 
+    /// The build without commands and with them, taken in turn.
+    fn paths(&self, name: &str, without: &Case, with: &Case) {
+        let row = |core: &Core| {
+            let [one, other] = core.builds(without, with);
+            vec![core.name.to_owned(), micro(one), micro(other), format!("{:.2}", other / one)]
+        };
+        table(
+            &format!("**The build of {name}**, without its garden paths and with them, in turn"),
+            &texts(["least, microseconds", "without", "with", "times"]),
+            &[row(&self.library), row(&self.plain)],
+        );
+    }
+
     /// Reading and writing packages, and how that grows with their bytes.
     fn packages(&self, title: &str, packages: impl Iterator<Item = Packed>) {
         let sizes = texts(["statements", "bytes"]);
@@ -506,7 +565,7 @@ impl Bench {
         let outcomes = self.outcomes(case);
         let passes = outcomes[0].0[3] as usize;
         let (checks, idle, parse) = (self.library.checks(case), self.library.parse(case, 0), self.library.parse(case, 4));
-        let copies = 20_000 / passes + 1;
+        let copies = 200_000 / passes + 1;
         let theirs = self.oracles.iter().map(|oracle| oracle.parse(case, copies));
         let of_pass = |ns: f64| format!("{:.0}", ns / passes as f64);
         let sizes = [case.longest(), case.starts().count(), case.edges.len() / 16, passes].map(|size| size.to_string());
@@ -562,7 +621,7 @@ fn rules_before(count: u32) -> Vec<u32> {
 
 fn sheet(bench: &Bench) {
     for (title, statement) in [("Set S, 1 10", vec![1, 10]), ("Set S, the ten-pass sentence", nested(1))] {
-        bench.compare(title, &set_s(vec![], statement), [200, 4000]);
+        bench.compare(title, &set_s(vec![], statement), [2000, 40000]);
     }
 }
 
@@ -574,13 +633,29 @@ fn packed(d: &Database, count: usize, of: usize) -> Result<Packed, NotASymbol> {
     Ok(Packed::new(package))
 }
 
-fn database(bench: &Bench, path: &str) -> Result<(), String> {
-    let d = Database::read_file(path)?;
+/// One statement in so many of a database, after its commands.
+fn sampled(d: &Database) -> Case {
     let sample = d.statements.iter().step_by(STEP).map(|s| s.tokens.clone()).collect();
-    let case = Case::new(d.provable, d.logic, d.rule_words(), sample);
+    Case::with_commands(d.provable, d.logic, d.rule_words(), d.command_words(), sample)
+}
+
+fn database(bench: &Bench, path: &str, paths: &[String]) -> Result<(), String> {
+    let d = Database::read_file(path)?;
+    let case = sampled(&d);
     let name = path.rsplit('/').next().unwrap_or(path);
-    let (columns, _) = bench.compare(&format!("{name}, one statement in {STEP}"), &case, [4, 4]);
+    let (columns, _) = bench.compare(&format!("{name}, one statement in {STEP}"), &case, [40, 20]);
     bench.parts(&case, &columns[0]);
+    for folder in paths {
+        let Ok(text) = std::fs::read_to_string(format!("{folder}/{name}.txt")) else {
+            continue;
+        };
+        let mut commanded = d.clone();
+        commanded.add_commands(&text)?;
+        let with = sampled(&commanded);
+        let (columns, _) = bench.compare(&format!("{name} with its garden paths, the same statements"), &with, [40, 20]);
+        bench.parts(&with, &columns[0]);
+        bench.paths(name, &case, &with);
+    }
     let packages: Result<Vec<Packed>, NotASymbol> = [1, 2, 4, 8].into_iter().map(|count| packed(&d, count, 8)).collect();
     let packages = packages.map_err(|why| format!("{path}: {why}"))?;
     bench.packages(
@@ -628,7 +703,7 @@ fn main() -> ExitCode {
     println!("Medians of {REPETITIONS} repetitions.");
     sheet(&bench);
     for path in options(&args, "--database") {
-        if let Err(why) = database(&bench, &path) {
+        if let Err(why) = database(&bench, &path, &options(&args, "--paths")) {
             eprintln!("bench: {why}");
             return ExitCode::FAILURE;
         }

@@ -11,6 +11,8 @@ use std::time::{Duration, Instant};
 mod call;
 #[path = "compare/counts.rs"]
 mod counts;
+#[path = "compare/gardens.rs"]
+mod gardens;
 #[path = "compare/packages.rs"]
 mod packages;
 #[path = "compare/rooms.rs"]

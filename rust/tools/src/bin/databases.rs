@@ -1,16 +1,20 @@
 //! Builds the grammar of each Metamath database that is named, parses every statement of it through the proved library, and has each list
-//! that comes back checked alone. With `--oracle PROGRAM` the line driver around the published Rust answers the same questions, and each
-//! answer is held against it; with `--paths COMMANDS` it is also asked what it accepts once those have run. Prints a table, then what the
-//! comparisons found; says on standard error how far it is.
+//! that comes back checked alone. A database with commands is taken without them first, then with them; `--paths FOLDER` has a text of commands for
+//! each that has none in its own comments (`set.mm.txt` for `set.mm`). With `--oracle PROGRAM` the line driver around the published Rust answers the
+//! same questions, and each answer is held against it. Prints a table, then one of the commands, then what the comparisons found; says on standard
+//! error how far it is.
 
+use jiehkavon::limits::{FRAME_WIDTH, MOST_CLONES, MOST_EDGES, MOST_NODES, ROW_WIDTH};
 use jiehkavon::words::{self, Answer, Built};
 use jiehkavon::Room as Enough;
 use std::collections::BTreeMap;
 use std::io::Write as _;
 use std::process::{Command, ExitCode, Stdio};
 use std::time::{Duration, Instant};
-use tools::metamath::{Command as After, Database, Statement};
+use tools::metamath::{Command as After, Database, Item, Statement};
+use tools::oracle::{Edge, Node, Tree};
 use tools::tables;
+use tools::trees::{relation, Relation};
 
 const HEADINGS: [&str; 12] = [
     "database",
@@ -27,6 +31,16 @@ const HEADINGS: [&str; 12] = [
     "seconds: build + parse + check",
 ];
 
+const BUILD_HEADINGS: [&str; 7] = [
+    "database",
+    "nodes",
+    "edges",
+    "edges taken up by each path",
+    "most frames at once",
+    "largest offset",
+    "most reduces",
+];
+
 /// A database with its tables.
 struct Grammar<'a> {
     database: &'a Database,
@@ -39,10 +53,19 @@ struct Grammar<'a> {
 
 impl<'a> Grammar<'a> {
     fn new(database: &'a Database) -> Self {
-        let rules = database.rule_words();
+        let (rules, commands) = (database.rule_words(), database.command_words());
         let (mut nodes, mut edges) = tables::longest();
+        let mut frames = vec![0; MOST_CLONES * FRAME_WIDTH];
         let start = Instant::now();
-        let built = words::build(database.provable, database.logic, &rules, &mut nodes, &mut edges);
+        let built = words::build(
+            database.provable,
+            database.logic,
+            &rules,
+            &commands,
+            &mut nodes,
+            &mut edges,
+            &mut frames,
+        );
         let time = start.elapsed();
         tables::cut(built, &mut nodes, &mut edges);
         Grammar {
@@ -54,6 +77,49 @@ impl<'a> Grammar<'a> {
             time,
         }
     }
+
+    fn has_paths(&self) -> bool {
+        self.database.commands.iter().any(|command| *command != After::TypeConversions)
+    }
+
+    /// The tree as the published Rust tells its own: edges sorted.
+    fn tree(&self) -> Tree {
+        let node = |&word: &u32| match word {
+            0 => Node::Branch,
+            rule => {
+                let Some(told) = self.database.rules.get(rule as usize - 1) else {
+                    return Node::Branch;
+                };
+                let slots = told.body.iter().filter(|item| matches!(item, Item::Slot(_))).count();
+                Node::Leaf {
+                    rule,
+                    typecode: told.result,
+                    slots: slots as u32,
+                }
+            }
+        };
+        let edge = |row: &[u32]| Edge {
+            from: row[0],
+            kind: row[1],
+            symbol: row[2],
+            to: row[3],
+            reduces: reduces(row),
+        };
+        let mut edges: Vec<Edge> = self.edges.chunks_exact(ROW_WIDTH).map(edge).collect();
+        edges.sort();
+        Tree {
+            nodes: self.nodes.iter().map(node).collect(),
+            edges,
+        }
+    }
+}
+
+/// The rules and offsets of an edge.
+fn reduces(row: &[u32]) -> Vec<(u32, u32)> {
+    row[5..5 + 2 * row[4] as usize]
+        .chunks_exact(2)
+        .map(|pair| (pair[0], pair[1]))
+        .collect()
 }
 
 /// Slices to lend, long enough for every statement of a database.
@@ -77,7 +143,11 @@ impl Room {
     /// A parse with the room that is proved to be enough.
     fn parse(&mut self, g: &Grammar, tokens: &[u32]) -> Answer {
         let (d, enough) = (g.database, Enough::for_tokens(tokens.len()));
-        let (frames, list, work) = (&mut self.frames[..enough.frames], &mut self.list[..enough.list], &mut self.work[..enough.list]);
+        let (frames, list, work) = (
+            &mut self.frames[..enough.frames],
+            &mut self.list[..enough.list],
+            &mut self.work[..enough.list],
+        );
         words::parse(
             d.provable,
             d.logic,
@@ -193,9 +263,9 @@ fn row(name: &str, g: &Grammar, tally: &Tally) {
     );
 }
 
-/// All that the published Rust answers: a build with these commands after the rules, its tree, every statement.
-fn ask(oracle: &str, d: &Database, commands: &[After]) -> Result<Vec<String>, String> {
-    let mut lines = d.lines(commands) + "tree\n";
+/// All that the published Rust answers: a build with the database's commands after the rules, its tree, every statement.
+fn ask(oracle: &str, d: &Database) -> Result<Vec<String>, String> {
+    let mut lines = d.lines() + "tree\n";
     for statement in &d.statements {
         let tokens: Vec<String> = statement.tokens.iter().map(u32::to_string).collect();
         lines += &format!("parse {}\n", tokens.join(" "));
@@ -213,27 +283,14 @@ fn ask(oracle: &str, d: &Database, commands: &[After]) -> Result<Vec<String>, St
     Ok(String::from_utf8_lossy(&output.stdout).lines().map(str::to_owned).collect())
 }
 
-/// The tables in the lines of the published Rust's tree, which come sorted.
-fn tree_lines(g: &Grammar) -> Vec<String> {
-    let mut rows: Vec<&[u32]> = g.edges.chunks(16).collect();
-    rows.sort_by_key(|row| (row[0], row[1], row[2]));
-    let edge = |row: &&[u32]| {
-        let words = row[..5 + 2 * row[4] as usize].iter();
-        words.fold("e".to_owned(), |line, word| format!("{line} {word}"))
-    };
-    rows.iter().map(edge).collect()
-}
-
-/// Whether the tree that the published Rust tells has our nodes and edges: kinds, leaves' rules, targets, reduces.
-fn same_tree(g: &Grammar, told: &[String]) -> bool {
-    let node = |(id, &rule): (usize, &u32)| match rule {
-        0 => format!("n {id} branch"),
-        _ => format!("n {id} leaf {rule} "),
-    };
-    let nodes: Vec<String> = g.nodes.iter().enumerate().map(node).collect();
-    let (told_nodes, told_edges): (Vec<_>, Vec<_>) = told.iter().partition(|line| line.starts_with('n'));
-    let starts = |(told, ours): (&&String, &String)| told.starts_with(ours.as_str());
-    told_nodes.len() == nodes.len() && told_nodes.iter().zip(&nodes).all(starts) && told_edges.into_iter().eq(&tree_lines(g))
+/// How the tree that the published Rust tells stands to ours, with kinds, leaves' rules, targets and reduces. Copied nodes have other numbers there,
+/// since they are numbered in the order of its maps.
+fn same_tree(g: &Grammar, told: &[String]) -> Option<&'static str> {
+    match (relation(&g.tree(), &Tree::read(told).ok()?), g.has_paths()) {
+        (Relation::Equal, _) => Some("the same tree"),
+        (Relation::Renumbered, true) => Some("the same tree but for the numbers of nodes"),
+        _ => None,
+    }
 }
 
 /// What the published Rust's answer is in the paper's numbers; nothing where it panics. It returns formulas without looking whether they
@@ -273,9 +330,10 @@ impl Findings {
         let Some(end) = told.iter().position(|line| line == "end") else {
             return self.blame(format!("{name}: the published Rust built nothing: {}", told.join(" ")));
         };
-        if !told[0].starts_with("built ") || !same_tree(g, &told[2..end]) || ours.len() != told.len() - end - 1 {
-            return self.blame(format!("{name}: another tree, or too few answers: {}", told[0]));
-        }
+        let tree = match same_tree(g, &told[2..end]) {
+            Some(tree) if told[0].starts_with("built ") && ours.len() == told.len() - end - 1 => tree,
+            _ => return self.blame(format!("{name}: another tree, or too few answers: {}", told[0])),
+        };
         let (mut same, mut outside) = (0, 0);
         for ((ours, line), statement) in ours.iter().zip(&told[end + 1..]).zip(&g.database.statements) {
             match outcome(line) {
@@ -286,7 +344,7 @@ impl Findings {
             }
         }
         self.notes.push(format!(
-            "{name}: the same tree; of {} answers {same} are the same in number, place, list and passes, {outside} outside the comparison",
+            "{name}: {tree}; of {} answers {same} are the same in number, place, list and passes, {outside} outside the comparison",
             ours.len()
         ));
     }
@@ -295,27 +353,15 @@ impl Findings {
         self.notes.push(note);
         self.wrong = true;
     }
-
-    /// How many statements the published Rust itself accepts once it is given garden paths: what is refused here for the lack of them.
-    fn with_paths(&mut self, name: &str, database: &Database, oracle: &str, paths: &str) -> Result<(), String> {
-        let Ok(commands) = database.commands(paths) else {
-            return Ok(()); // they speak of symbols that this database hasn't got
-        };
-        let told = ask(oracle, database, &commands)?;
-        let accepted = told.iter().filter(|line| outcome(line).is_some_and(|o| o.number == 0)).count();
-        let built = told.first().map_or("nothing built", String::as_str);
-        let all = database.statements.len();
-        self.notes.push(format!(
-            "{name}: given the garden paths, the published Rust accepts {accepted} of {all} ({built})"
-        ));
-        Ok(())
-    }
 }
 
 /// What is asked of each database, and what came of it so far.
 struct Task {
     oracle: Option<String>,
+    /// The folder with texts of commands.
     paths: Option<String>,
+    /// A row for each database with garden paths: what is known of its build.
+    builds: Vec<String>,
     findings: Findings,
 }
 
@@ -324,6 +370,10 @@ impl Task {
         let g = Grammar::new(database);
         let (tally, outcomes) = parse_all(name, &g);
         row(name, &g, &tally);
+        if g.has_paths() {
+            let build = build_row(name, &g)?;
+            self.builds.push(build);
+        }
         if tally.checked != tally.accepted() {
             self.findings.blame(format!("{name}: the check refuses lists that were accepted"));
         }
@@ -333,18 +383,57 @@ impl Task {
         let (Some(oracle), 0) = (&self.oracle, g.built.number) else {
             return Ok(());
         };
-        let told = ask(oracle, database, &[After::TypeConversions])?;
+        let told = ask(oracle, database)?;
         self.findings.compare(name, &g, &outcomes, &told);
-        match &self.paths {
-            Some(paths) => self.findings.with_paths(name, database, oracle, paths),
-            None => Ok(()),
-        }
+        Ok(())
     }
 
     fn run_file(&mut self, path: &str) -> Result<(), String> {
-        let both = Database::read_both(path)?;
-        both.iter().try_for_each(|(name, database)| self.run(name, database))
+        for (name, mut database) in Database::read_both(path)? {
+            let mut bare = database.clone();
+            bare.commands.clear();
+            self.run(&name, &bare)?;
+            if let Some(text) = self.commands_of(path) {
+                database.add_commands(&text).map_err(|why| format!("{name}: {why}"))?;
+            }
+            if !database.commands.is_empty() {
+                self.run(&format!("{name} with its paths"), &database)?;
+            }
+        }
+        Ok(())
     }
+
+    /// The text of commands for a database, if there is one.
+    fn commands_of(&self, path: &str) -> Option<String> {
+        let name = path.rsplit('/').next()?;
+        std::fs::read_to_string(format!("{}/{name}.txt", self.paths.as_ref()?)).ok()
+    }
+}
+
+/// What the plain Rust says of a build with garden paths, which has to be the library's: how many edges each path took up, the most frames at once.
+fn build_row(name: &str, g: &Grammar) -> Result<String, String> {
+    let rules = plain::Rules::read(g.database.provable, g.database.logic, &g.rules).ok_or_else(|| format!("{name}: bad rules"))?;
+    let room = plain::Room {
+        nodes: MOST_NODES,
+        edges: MOST_EDGES,
+        frames: MOST_CLONES,
+    };
+    let tree = plain::grow(&rules, &g.database.command_words(), room).map_err(|why| format!("{name}: {why:?}"))?;
+    if (tree.nodes.len(), tree.rows.len()) != (g.built.nodes as usize, g.built.edges as usize) {
+        return Err(format!("{name}: the plain Rust builds another tree"));
+    }
+    let taken: Vec<String> = tree.taken.iter().map(|taken| taken.edges.to_string()).collect();
+    let deepest = tree.taken.iter().map(|taken| taken.deepest).max().unwrap_or(0);
+    let lists: Vec<Vec<(u32, u32)>> = g.edges.chunks_exact(ROW_WIDTH).map(reduces).collect();
+    let offset = lists.iter().flatten().map(|reduce| reduce.1).max().unwrap_or(0);
+    let most = lists.iter().map(Vec::len).max().unwrap_or(0);
+    let with_most = lists.iter().filter(|list| list.len() == most).count();
+    Ok(format!(
+        "| {name} | {} | {} | {} | {deepest} | {offset} | {most}, on {with_most} edges |",
+        g.built.nodes,
+        g.built.edges,
+        taken.join(", ")
+    ))
 }
 
 /// The word after `name`, both taken out of the arguments.
@@ -357,12 +446,13 @@ fn main() -> ExitCode {
     let mut args: Vec<String> = std::env::args().skip(1).collect();
     let (oracle, paths) = (option(&mut args, "--oracle"), option(&mut args, "--paths"));
     if args.is_empty() {
-        eprintln!("databases [--oracle PROGRAM [--paths COMMANDS]] FILE...");
+        eprintln!("databases [--oracle PROGRAM] [--paths FOLDER] FILE...");
         return ExitCode::from(2);
     }
     let mut task = Task {
         oracle,
         paths,
+        builds: Vec::new(),
         findings: Findings::default(),
     };
     println!("| {} |\n|{}", HEADINGS.join(" | "), "---|".repeat(HEADINGS.len()));
@@ -370,6 +460,10 @@ fn main() -> ExitCode {
         if let Err(why) = task.run_file(path) {
             task.findings.blame(why);
         }
+    }
+    if !task.builds.is_empty() {
+        println!("\n| {} |\n|{}", BUILD_HEADINGS.join(" | "), "---|".repeat(BUILD_HEADINGS.len()));
+        task.builds.iter().for_each(|build| println!("{build}"));
     }
     println!();
     task.findings.notes.iter().for_each(|note| println!("{note}"));

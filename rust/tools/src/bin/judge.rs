@@ -2,26 +2,34 @@
 
 use std::collections::BTreeMap;
 use std::io::{self, BufWriter, Read, Write};
-use std::process::ExitCode;
-use tools::grown::{grow_set, Sentences};
+use std::process::{Command, ExitCode, Stdio};
+use tools::grown::{grow_garden, grow_set, Sentences, Set};
 use tools::held::{hold, Tally, Verdict};
 use tools::oracle::{Answers, Asked};
+use tools::random::Random;
 use tools::{sides, vectors};
 
-const USE: &str = "judge make SEED SETS STATEMENTS        writes the questions
-judge hold SIDE SEED SETS STATEMENTS   reads the Rust's answers to them and compares; 1 if anything is found. SIDE is library or plain
-judge sum                              reads what several `hold` wrote and adds it up; 1 if anything was found
-judge pick SEED SETS STATEMENTS MOST   reads the answers as `hold` does and writes the questions of some sets, each pair of answers among them
-judge bind FILE                        reads the Rust's answers to a file of questions and writes both as a file of vectors";
+const USE: &str = "judge make KIND SEED SETS STATEMENTS        writes the questions
+judge hold KIND SEED SETS STATEMENTS SIDE ORACLE
+                                            reads the Rust's answers to them and compares; 1 if anything is found
+judge sum                                   reads what several `hold` wrote and adds it up; 1 if anything was found
+judge pick KIND SEED SETS STATEMENTS ORACLE MOST
+                                            reads the answers as `hold` does and writes the questions of some sets, each pair of answers among them
+judge bind FILE                             reads the Rust's answers to a file of questions and writes both as a file of vectors
+KIND is rules, or gardens for sets with commands; SIDE is library or plain; ORACLE is the Rust's line driver";
 
 fn main() -> ExitCode {
     let words: Vec<String> = std::env::args().skip(1).collect();
     let words: Vec<&str> = words.iter().map(String::as_str).collect();
     let result = match words[..] {
-        ["make", seed, sets, statements] => numbers([seed, sets, statements]).and_then(make),
-        ["hold", side, seed, sets, statements] => numbers([seed, sets, statements]).and_then(|numbers| hold_all(side, numbers)),
+        ["make", kind, seed, sets, statements] => Sets::read(kind, [seed, sets, statements]).and_then(make),
+        ["hold", kind, seed, sets, statements, side, oracle] => {
+            Sets::read(kind, [seed, sets, statements]).and_then(|sets| hold_all(sets, side, oracle))
+        }
         ["sum"] => sum(),
-        ["pick", seed, sets, statements, most] => numbers([seed, sets, statements, most]).and_then(pick),
+        ["pick", kind, seed, sets, statements, oracle, most] => {
+            Sets::read(kind, [seed, sets, statements]).and_then(|sets| pick(sets, oracle, number(most)?))
+        }
         ["bind", file] => bind(file),
         _ => Err(USE.to_string()),
     };
@@ -38,31 +46,52 @@ fn main() -> ExitCode {
     }
 }
 
-fn numbers<const N: usize>(words: [&str; N]) -> Result<[u64; N], String> {
-    let mut numbers = [0; N];
-    for (number, word) in numbers.iter_mut().zip(words) {
-        *number = word.parse().map_err(|_| format!("no number: {word}"))?;
+/// The sets of a seed.
+#[derive(Clone, Copy)]
+struct Sets {
+    grow: fn(u64, u64) -> (Set, Random),
+    seed: u64,
+    count: u64,
+    statements: u64,
+}
+
+fn number(word: &str) -> Result<u64, String> {
+    word.parse().map_err(|_| format!("no number: {word}"))
+}
+
+impl Sets {
+    fn read(kind: &str, [seed, sets, statements]: [&str; 3]) -> Result<Sets, String> {
+        let grow = match kind {
+            "rules" => grow_set,
+            "gardens" => grow_garden,
+            _ => return Err(format!("no kind of sets: {kind}")),
+        };
+        Ok(Sets {
+            grow,
+            seed: number(seed)?,
+            count: number(sets)?,
+            statements: number(statements)?,
+        })
     }
-    Ok(numbers)
+
+    fn asked(self, number: u64) -> Asked {
+        let (set, mut luck) = (self.grow)(self.seed, number);
+        let sentences = Sentences::of(&set);
+        let statements = (0..self.statements).map(|_| sentences.grow(&mut luck)).collect();
+        Asked { set, statements }
+    }
+
+    /// The name of a set, told before its questions and answers so that the two can't get out of step.
+    fn name(self, number: u64) -> String {
+        format!("set {number} of seed {}", self.seed)
+    }
 }
 
-fn asked(seed: u64, number: u64, statements: u64) -> Asked {
-    let (set, mut luck) = grow_set(seed, number);
-    let sentences = Sentences::of(&set);
-    let statements = (0..statements).map(|_| sentences.grow(&mut luck)).collect();
-    Asked { set, statements }
-}
-
-/// The name of a set, told before its questions and answers so that the two can't get out of step.
-fn name(seed: u64, number: u64) -> String {
-    format!("set {number} of seed {seed}")
-}
-
-fn make([seed, sets, statements]: [u64; 3]) -> Result<u64, String> {
+fn make(sets: Sets) -> Result<u64, String> {
     let mut out = BufWriter::new(io::stdout().lock());
-    for number in 0..sets {
-        let questions = asked(seed, number, statements);
-        write!(out, "say {}\n{questions}", name(seed, number)).map_err(|e| e.to_string())?;
+    for number in 0..sets.count {
+        let questions = sets.asked(number);
+        write!(out, "say {}\n{questions}", sets.name(number)).map_err(|e| e.to_string())?;
     }
     out.flush().map_err(|e| e.to_string())?;
     Ok(0)
@@ -75,16 +104,16 @@ fn read_all() -> Result<String, String> {
 }
 
 /// Goes through all sets with the Rust's answers to them.
-fn with_answers([seed, sets, statements]: [u64; 3], mut each: impl FnMut(&str, &Asked, &Answers)) -> Result<(), String> {
+fn with_answers(sets: Sets, mut each: impl FnMut(&str, &Asked, &Answers)) -> Result<(), String> {
     let text = read_all()?;
     let mut lines = text.lines();
-    for number in 0..sets {
-        let name = name(seed, number);
+    for number in 0..sets.count {
+        let name = sets.name(number);
         if lines.next() != Some(&name) {
             return Err(format!("no answers to {name}"));
         }
-        let asked = asked(seed, number, statements);
-        let answers = Answers::read(asked.statements.len(), &mut lines).map_err(|why| format!("{name}: {why}"))?;
+        let asked = sets.asked(number);
+        let answers = Answers::read(&asked, &mut lines).map_err(|why| format!("{name}: {why}"))?;
         each(&name, &asked, &answers);
     }
     match lines.next() {
@@ -93,24 +122,66 @@ fn with_answers([seed, sets, statements]: [u64; 3], mut each: impl FnMut(&str, &
     }
 }
 
-fn hold_all(side: &str, numbers: [u64; 3]) -> Result<u64, String> {
+/// In how many orders the symbols of a set are told that parts from the Rust.
+const ORDERS: u64 = 12;
+
+/// The Rust's answers to a build in these orders.
+fn again(oracle: &str, asked: &Asked) -> Result<Vec<Answers>, String> {
+    let ordered = |shuffle| Asked {
+        set: Set {
+            shuffle,
+            ..asked.set.clone()
+        },
+        statements: Vec::new(),
+    };
+    let questions: Vec<Asked> = (0..ORDERS).map(ordered).collect();
+    let text: String = questions.iter().map(Asked::to_string).collect();
+    let mut driver = Command::new(oracle)
+        .stdin(Stdio::piped())
+        .stdout(Stdio::piped())
+        .spawn()
+        .map_err(|e| format!("{oracle}: {e}"))?;
+    let mut input = driver.stdin.take().ok_or("no way to the driver")?;
+    input.write_all(text.as_bytes()).map_err(|e| e.to_string())?;
+    drop(input);
+    let output = driver.wait_with_output().map_err(|e| e.to_string())?;
+    let answers = String::from_utf8(output.stdout).map_err(|e| e.to_string())?;
+    let mut lines = answers.lines();
+    questions.iter().map(|asked| Answers::read(asked, &mut lines)).collect()
+}
+
+/// What can't be asked again stays found.
+fn asking(oracle: &str) -> impl Fn(&Asked) -> Vec<Answers> + '_ {
+    move |asked| {
+        again(oracle, asked).unwrap_or_else(|why| {
+            eprintln!("judge: {why}");
+            Vec::new()
+        })
+    }
+}
+
+fn hold_all(sets: Sets, side: &str, oracle: &str) -> Result<u64, String> {
     let side = sides::named(side).ok_or_else(|| format!("no side: {side}"))?;
     let mut tally = Tally::default();
-    with_answers(numbers, |name, asked, answers| hold(side, name, asked, answers, &mut tally))?;
+    with_answers(sets, |name, asked, answers| {
+        hold(side, name, asked, answers, &asking(oracle), &mut tally)
+    })?;
     Ok(tell(&tally))
 }
 
 /// Keeps a set if it has a pair of answers that fewer than `most` kept sets have, and more of those that build in both. A set that does not is
-/// kept without its statements, which have nothing to be held against. Giant sets would fill the file alone.
-fn pick([seed, sets, statements, most]: [u64; 4]) -> Result<u64, String> {
+/// kept without its statements, which have nothing to be held against. Giant sets would fill the file alone, and where the order of the Rust's
+/// maps shows its answers are not worth keeping.
+fn pick(sets: Sets, oracle: &str, most: u64) -> Result<u64, String> {
     let mut kept: BTreeMap<(Verdict, String), u64> = BTreeMap::new();
-    with_answers([seed, sets, statements], |name, asked, answers| {
-        if asked.set.rules.len() > 60 {
+    with_answers(sets, |name, asked, answers| {
+        let mut tally = Tally::default();
+        hold(&sides::PLAIN, name, asked, answers, &asking(oracle), &mut tally);
+        let order_shows = tally.pairs.keys().any(|(_, pair)| pair.contains("order of the maps"));
+        if order_shows || asked.set.rules.len() > 60 || answers.tree.nodes.len() > 200 {
             return;
         }
-        let mut tally = Tally::default();
-        hold(&sides::PLAIN, name, asked, answers, &mut tally);
-        let built = tally.compared.contains_key("trees equal");
+        let built = tally.compared.contains_key("statements");
         let enough = |pair: &(Verdict, String)| if built && pair.1.starts_with("build") { 10 * most } else { most };
         let pairs: Vec<_> = tally.pairs.into_keys().collect();
         if pairs.iter().any(|pair| kept.get(pair).copied().unwrap_or(0) < enough(pair)) {

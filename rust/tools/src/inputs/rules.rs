@@ -8,6 +8,15 @@ pub enum Item {
     Slot(u32),
 }
 
+impl Item {
+    pub fn pair(&self) -> [u32; 2] {
+        match *self {
+            Item::Constant(symbol) => [0, symbol],
+            Item::Slot(typecode) => [1, typecode],
+        }
+    }
+}
+
 #[derive(Clone, Debug, PartialEq, Eq)]
 pub struct Rule {
     pub result: u32,
@@ -21,12 +30,8 @@ impl Rule {
     }
 
     pub fn words(&self) -> Vec<u32> {
-        let pair = |&item: &Item| match item {
-            Item::Constant(symbol) => [0, symbol],
-            Item::Slot(typecode) => [1, typecode],
-        };
         let mut words = vec![self.result, self.body.len() as u32];
-        words.extend(self.body.iter().flat_map(pair));
+        words.extend(self.body.iter().flat_map(Item::pair));
         words
     }
 
@@ -35,7 +40,7 @@ impl Rule {
     }
 
     /// Conversions are not placed in the tree, and so collide with nothing.
-    fn collides(&self, other: &Rule) -> bool {
+    pub fn collides(&self, other: &Rule) -> bool {
         let common = self.body.starts_with(&other.body) || other.body.starts_with(&self.body);
         common && !self.is_conversion() && !other.is_conversion()
     }

@@ -73,7 +73,8 @@ pub fn edited_sample(random: &mut Random) -> RuleSet {
     set
 }
 
-fn edit(random: &mut Random, set: &mut RuleSet) {
+/// A small change of some rules.
+pub fn edit(random: &mut Random, set: &mut RuleSet) {
     let (constants, typecodes) = (set.constants(), set.typecodes());
     let (place, other) = (random.below(set.rules.len()), random.below(set.rules.len()));
     match random.below(5) {

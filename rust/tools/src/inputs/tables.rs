@@ -19,7 +19,7 @@ pub fn built(set: &RuleSet) -> Option<Grammar> {
     let (nodes, edges) = ample_room(set);
     let (mut nodes, mut edges) = (vec![0; nodes], vec![0; ROW * edges]);
     let rules = set.words();
-    let built = plain::build(set.provable, set.logic, &rules, &mut nodes, &mut edges);
+    let built = plain::build(set.provable, set.logic, &rules, &[], &mut nodes, &mut edges, &mut []);
     nodes.truncate(built.nodes as usize);
     edges.truncate(ROW * built.edges as usize);
     (built.number == 0).then(|| with_tables(set, nodes, edges))

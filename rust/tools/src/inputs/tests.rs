@@ -1,5 +1,7 @@
 //! The generators make what they say.
 
+use super::commands::{fault, words};
+use super::gardens::{garden, samples, Garden};
 use super::limits;
 use super::packages::{bytes, counted, rearrange, records, with_item_fault, with_length_fault};
 use super::rules::{rule_set, RuleSet};
@@ -18,7 +20,7 @@ fn sets(seed: u64) -> Vec<RuleSet> {
 
 fn build(set: &RuleSet, (nodes, edges): (usize, usize)) -> (u32, u32, u32) {
     let (mut nodes, mut edges) = (vec![0; nodes], vec![0; ROW * edges]);
-    let built = plain::build(set.provable, set.logic, &set.words(), &mut nodes, &mut edges);
+    let built = plain::build(set.provable, set.logic, &set.words(), &[], &mut nodes, &mut edges, &mut []);
     (built.number, built.nodes, built.edges)
 }
 
@@ -180,4 +182,55 @@ fn damaged_packages_are_refused_in_every_way() {
     for number in [0, 10, 20, 21, 22, 23] {
         assert!(numbers.contains(&number), "{number}");
     }
+}
+
+/// The number of a build with commands, with room for the largest trees.
+fn garden_number(garden: &Garden) -> u32 {
+    command_number(&garden.set, &words(&garden.commands))
+}
+
+fn command_number(set: &RuleSet, commands: &[u32]) -> u32 {
+    let room = plain::Room {
+        nodes: 8_192,
+        edges: 16_384,
+        frames: 16_385,
+    };
+    let rules = plain::Rules::read(set.provable, set.logic, &set.words()).expect("good rules");
+    plain::grow(&rules, commands, room).err().map_or(0, plain::Refusal::number)
+}
+
+#[test]
+fn samples_of_gardens_end_in_every_way() {
+    let numbers: Vec<u32> = samples().iter().map(garden_number).collect();
+    assert_eq!(numbers, [0, 0, 0, 0, 0, 0, 0, 12, 14, 15, 17, 16]);
+}
+
+#[test]
+fn many_gardens_build_and_their_paths_copy() {
+    let mut random = Random::new(9);
+    let gardens: Vec<Garden> = (0..SETS).map(|_| garden(&mut random)).collect();
+    let good = |garden: &&Garden| plain::Rules::read(1, 2, &garden.set.words()).is_some();
+    let built: Vec<&Garden> = gardens.iter().filter(good).filter(|garden| garden_number(garden) == 0).collect();
+    assert!(built.len() > SETS / 3, "{}", built.len());
+    let copied = built.iter().filter(|garden| {
+        let rows = |commands: &[u32]| {
+            let rules = plain::Rules::read(1, 2, &garden.set.words()).expect("good rules");
+            let room = plain::Room {
+                nodes: 8_192,
+                edges: 16_384,
+                frames: 16_385,
+            };
+            plain::grow(&rules, commands, room).map_or(0, |tree| tree.rows.len())
+        };
+        rows(&words(&garden.commands)) > rows(&[])
+    });
+    assert!(copied.count() > SETS / 6);
+}
+
+#[test]
+fn command_faults_are_mostly_refused() {
+    let mut random = Random::new(10);
+    let garden = &samples()[0];
+    let refused = (0..100).filter(|_| command_number(&garden.set, &fault(&mut random, &garden.commands)) == 16);
+    assert!(refused.count() > 50);
 }

@@ -24,7 +24,7 @@ impl Entry {
     fn names(self) -> (&'static [&'static str], &'static [&'static str]) {
         match self {
             Entry::Body => (&["provable", "logic", "rule"], &["rules"]),
-            Entry::Build => (&["provable", "logic"], &["rules", "nodes", "edges"]),
+            Entry::Build => (&["provable", "logic"], &["rules", "commands", "nodes", "edges", "frames"]),
             Entry::Parse => (
                 &["provable", "logic", "allowance"],
                 &["rules", "nodes", "edges", "tokens", "frames", "list", "work"],
@@ -38,10 +38,10 @@ impl Entry {
     /// How many slices are only read.
     fn read(self) -> usize {
         match self {
-            Entry::Body | Entry::Build | Entry::Read => 1,
-            Entry::Parse => 4,
+            Entry::Body | Entry::Read => 1,
+            Entry::Build | Entry::Write => 2,
             Entry::Verify => 3,
-            Entry::Write => 2,
+            Entry::Parse => 4,
         }
     }
 
@@ -72,12 +72,19 @@ impl Call {
         }
     }
 
-    /// Room in words.
+    /// Without commands. Room in words.
     pub fn build(random: &mut Random, grammar: &Grammar, nodes: usize, edges: usize) -> Call {
+        Call::build_with(random, grammar, &[], [nodes, edges, 0])
+    }
+
+    /// Room in words: for nodes, edges, frames.
+    pub fn build_with(random: &mut Random, grammar: &Grammar, commands: &[u32], rooms: [usize; 3]) -> Call {
+        let read = [&grammar.rules, commands].map(<[u32]>::to_vec);
+        let lent = rooms.map(|length| garbage(random, length));
         Call {
             entry: Entry::Build,
             numbers: vec![grammar.provable, grammar.logic],
-            slices: vec![grammar.rules.clone(), garbage(random, nodes), garbage(random, edges)],
+            slices: read.into_iter().chain(lent).collect(),
         }
     }
 
@@ -243,8 +250,8 @@ macro_rules! side {
                     let words::Stretch { start, length } = words::body(provable, logic, rules, rule);
                     [start, length].map(u64::from).to_vec()
                 }
-                (Entry::Build, &[provable, logic], [W(rules), W(nodes), W(edges)]) => {
-                    let words::Built { number, nodes, edges } = words::build(provable, logic, rules, nodes, edges);
+                (Entry::Build, &[provable, logic], [W(rules), W(commands), W(nodes), W(edges), W(frames)]) => {
+                    let words::Built { number, nodes, edges } = words::build(provable, logic, rules, commands, nodes, edges, frames);
                     [number, nodes, edges].map(u64::from).to_vec()
                 }
                 (Entry::Parse, &[provable, logic, allowance], [W(rules), W(nodes), W(edges), W(tokens), W(frames), W(list), W(work)]) => {
@@ -306,12 +313,12 @@ mod tests {
         let call = Call {
             entry: Entry::Build,
             numbers: vec![1, 2],
-            slices: vec![vec![2, 1, 0, 10], vec![9; 3], vec![]],
+            slices: vec![vec![2, 1, 0, 10], vec![], vec![9; 3], vec![], vec![]],
         };
         let outcome = ordinary(&call);
-        assert!(outcome.kept(&call) && outcome.slice(1) == [0; 3]);
-        let last = outcome.slices[1].len() - 1;
-        for (slice, place, kept) in [(0, FENCE.len(), false), (1, FENCE.len(), true), (1, 0, false), (1, last, false)] {
+        assert!(outcome.kept(&call) && outcome.slice(2) == [0; 3]);
+        let last = outcome.slices[2].len() - 1;
+        for (slice, place, kept) in [(0, FENCE.len(), false), (2, FENCE.len(), true), (2, 0, false), (2, last, false)] {
             let mut changed = outcome.clone();
             changed.slices[slice][place] += 1;
             assert_eq!(changed.kept(&call), kept);

@@ -47,15 +47,18 @@ pub fn needed_rooms(grammar: &Grammar, tokens: &[u32], ample: Rooms) -> Rooms {
     }
 }
 
-/// The least rooms, in rows, with which a build answers as with ample ones.
-pub fn needed_build(set: &RuleSet, (nodes, edges): (usize, usize)) -> (usize, usize) {
+/// The least rooms, in frames and rows, with which a build answers as with ample ones.
+pub fn needed_build(set: &RuleSet, commands: &[u32], ample: plain::Room) -> plain::Room {
     let Some(rules) = plain::Rules::read(set.provable, set.logic, &set.words()) else {
-        return (nodes, edges);
+        return ample;
     };
-    let refusal = |nodes, edges| plain::grow(&rules, plain::Room { nodes, edges }).err();
-    let answer = refusal(nodes, edges);
-    let least_nodes = least(nodes, |fewer| refusal(fewer, edges) == answer);
-    (least_nodes, least(edges, |fewer| refusal(nodes, fewer) == answer))
+    let refusal = |room| plain::grow(&rules, commands, room).err();
+    let answer = refusal(ample);
+    plain::Room {
+        frames: least(ample.frames, |frames| refusal(plain::Room { frames, ..ample }) == answer),
+        nodes: least(ample.nodes, |nodes| refusal(plain::Room { nodes, ..ample }) == answer),
+        edges: least(ample.edges, |edges| refusal(plain::Room { edges, ..ample }) == answer),
+    }
 }
 
 /// The least number that is enough, found by halving; `most` is.

@@ -1,6 +1,6 @@
 //! What is compared, round by round.
 
-use plain::TOKEN_LIMIT;
+use plain::{Room, TOKEN_LIMIT};
 use tools::inputs::damage::{damage, field, mangle, word, words};
 use tools::inputs::rules::{rule_fault, rule_set, RuleSet};
 use tools::inputs::samples::edited_sample;
@@ -21,6 +21,7 @@ pub struct Comparison {
     pub random: Random,
     pub counts: Counts,
     limit_rounds: usize,
+    pub deep_rounds: usize,
 }
 
 impl Comparison {
@@ -29,17 +30,19 @@ impl Comparison {
             random: Random::new(seed),
             counts: Counts::default(),
             limit_rounds: 0,
+            deep_rounds: 0,
         }
     }
 
     pub fn round(&mut self) -> Compared {
-        match self.random.weighted(&[700, 150, 60, 40, 20, 30, 5]) {
+        match self.random.weighted(&[700, 150, 60, 40, 20, 30, 300, 5]) {
             0 => self.grammar_round(),
             1 => self.hand_made_round(),
             2 => self.arbitrary_round(),
             3 => self.piled_round(),
             4 => self.many_tokens_round(),
             5 => self.package_round(),
+            6 => self.garden_round(),
             _ => self.limit_round(),
         }
     }
@@ -149,22 +152,34 @@ impl Comparison {
 
     /// With ample room; then with exactly what that took, and less by one word, of either table; then with any.
     fn builds(&mut self, set: &RuleSet) -> Compared {
+        let (nodes, edges) = ample_room(set);
+        let ample = Room { nodes, edges, frames: 0 };
+        self.builds_with(set, &[], ample)
+    }
+
+    /// With commands, and with frames one short as well.
+    pub fn builds_with(&mut self, set: &RuleSet, commands: &[u32], ample: Room) -> Compared {
         let grammar = with_tables(set, Vec::new(), Vec::new());
-        let ample = ample_room(set);
         let odd = self.random.below(ROW);
-        let call = Call::build(&mut self.random, &grammar, ample.0, ROW * ample.1 + odd);
+        let rooms = [ample.nodes, ROW * ample.edges + odd, ROW * ample.frames + odd];
+        let call = Call::build_with(&mut self.random, &grammar, commands, rooms);
         self.compare_around(call)?;
-        let (nodes, rows) = needed_build(set, ample);
-        let (edges, fewer) = (ROW * rows, (ROW * rows).saturating_sub(1));
-        let any = (self.random.between(0..=nodes), self.random.between(0..=edges));
-        for (nodes, edges) in [(nodes, edges), (nodes.saturating_sub(1), edges), (nodes, fewer), any] {
-            let call = Call::build(&mut self.random, &grammar, nodes, edges);
+        let needed = needed_build(set, commands, ample);
+        let exact = [needed.nodes, ROW * needed.edges, ROW * needed.frames];
+        let any = exact.map(|room| self.random.between(0..=room));
+        let one_short = |short: usize| {
+            let mut rooms = exact;
+            rooms[short] = rooms[short].saturating_sub(1);
+            rooms
+        };
+        for rooms in [exact, one_short(0), one_short(1), one_short(2), any] {
+            let call = Call::build_with(&mut self.random, &grammar, commands, rooms);
             self.compare(call)?;
         }
         Ok(())
     }
 
-    fn statements(&mut self, set: &RuleSet, grammar: &Grammar, count: usize) -> Compared {
+    pub fn statements(&mut self, set: &RuleSet, grammar: &Grammar, count: usize) -> Compared {
         let grower = Grower::new(set);
         for _ in 0..count {
             let sentence = self.statement(set, &grower);
@@ -270,7 +285,7 @@ impl Comparison {
     fn arbitrary_round(&mut self) -> Compared {
         for (entry, numbers, slices) in [
             (Entry::Body, 3, 1),
-            (Entry::Build, 2, 3),
+            (Entry::Build, 2, 5),
             (Entry::Parse, 3, 7),
             (Entry::Verify, 2, 4),
             (Entry::Read, 0, 3),

@@ -1,0 +1,3 @@
+pub mod Garden
+pub mod Code
+pub mod laws

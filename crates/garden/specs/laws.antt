@@ -1,0 +1,8 @@
+pub mod Examples
+pub mod Alone
+pub mod Frames
+pub mod Faults
+pub mod Built
+pub mod Standing
+pub mod Adds
+pub mod Pairs
