@@ -10,16 +10,16 @@ static_assert(sizeof(jiehkavon_package) == 48, "three words, of which one is pad
 static_assert(sizeof(jiehkavon_written) == 24, "a padded word and two sizes");
 
 int main() {
-    const uint32_t rules[] = {2, 1, 0, 10}, tokens[] = {1, 10};
+    const uint32_t rules[] = {2, 1, 0, 10, 0}, tokens[] = {1, 10};
     uint32_t nodes[2], edges[JIEHKAVON_ROW_WIDTH], list[JIEHKAVON_LIST_A_TOKEN], work[JIEHKAVON_LIST_A_TOKEN];
-    const jiehkavon_built built = jiehkavon_build(1, 2, rules, 4, nullptr, 0, nodes, 2, edges, JIEHKAVON_ROW_WIDTH, nullptr, 0);
-    const jiehkavon_answer parsed = jiehkavon_parse(1, 2, rules, 4, nodes, 2, edges, JIEHKAVON_ROW_WIDTH, tokens, 2,
+    const jiehkavon_built built = jiehkavon_build(1, 2, rules, 5, nullptr, 0, nodes, 2, edges, JIEHKAVON_ROW_WIDTH, nullptr, 0);
+    const jiehkavon_answer parsed = jiehkavon_parse(1, 2, rules, 5, nodes, 2, edges, JIEHKAVON_ROW_WIDTH, tokens, 2,
                                                     jiehkavon_enough_passes(2), nullptr, 0, list,
                                                     jiehkavon_enough_list(2), work, jiehkavon_enough_list(2));
-    const jiehkavon_answer verified = jiehkavon_verify(1, 2, rules, 4, tokens, 2, list, parsed.length, work, 1);
-    const jiehkavon_stretch body = jiehkavon_body(1, 2, rules, 4, 1);
+    const jiehkavon_answer verified = jiehkavon_verify(1, 2, rules, 5, tokens, 2, list, parsed.length, work, 1);
+    const jiehkavon_stretch body = jiehkavon_body(1, 2, rules, 5, 1);
     const bool good = built.number == JIEHKAVON_OK && built.nodes == 2 && built.edges == 1 && parsed.number == JIEHKAVON_OK
-        && parsed.length == 1 && list[0] == 1 && verified.number == JIEHKAVON_OK && body.start == 2 && body.length == 2;
+        && parsed.length == 1 && list[0] == 1 && verified.number == JIEHKAVON_OK && body.start == 2 && body.length == 3;
     std::puts(good ? "1 passed, 0 failed" : "0 passed, 1 failed");
     return good ? 0 : 1;
 }

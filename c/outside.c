@@ -151,10 +151,10 @@ static void check_combinations(const grounds *g, int entry, uint32_t number, con
 
 static void check_small(const grounds *g) {
     static const size_t most[ENTRIES][SLICES] = {
-        [BODY] = {[RULES] = 4},
-        [BUILD] = {[RULES] = 4, [COMMANDS] = 1, [NODES] = 3, [EDGES] = 5, [FRAMES] = 2},
-        [PARSE] = {[RULES] = 4, [NODES] = 2, [EDGES] = 2, [TOKENS] = 2, [FRAMES] = 1, [LIST] = 2, [WORK] = 2},
-        [VERIFY] = {[RULES] = 4, [TOKENS] = 2, [LIST] = 1, [WORK] = 2},
+        [BODY] = {[RULES] = 5},
+        [BUILD] = {[RULES] = 5, [COMMANDS] = 1, [NODES] = 3, [EDGES] = 5, [FRAMES] = 2},
+        [PARSE] = {[RULES] = 5, [NODES] = 2, [EDGES] = 2, [TOKENS] = 2, [FRAMES] = 1, [LIST] = 2, [WORK] = 2},
+        [VERIFY] = {[RULES] = 5, [TOKENS] = 2, [LIST] = 1, [WORK] = 2},
     };
     check_combinations(g, BODY, 1, most[BODY]);
     check_combinations(g, BUILD, 0, most[BUILD]);

@@ -1,15 +1,16 @@
 #include "sets.h"
 
+/* Rules 1 to 9. Variables are not in the tree, so that of rule 8 they may be the last and the first there are. */
 static const uint32_t rule_words[] = {
-    2, 1, 0, 10,                                 /* 1: 2 [c10] */
-    2, 1, 0, 11,                                 /* 2: 2 [c11] */
-    3, 1, 0, 12,                                 /* 3: 3 [c12] */
-    4, 1, 0, 13,                                 /* 4: 4 [c13] */
-    3, 1, 1, 4,                                  /* 5: 3 [s4] */
-    2, 2, 0, 14, 1, 2,                           /* 6: 2 [c14 s2] */
-    2, 5, 0, 5, 1, 2, 0, 7, 1, 2, 0, 6,          /* 7: 2 [c5 s2 c7 s2 c6] */
-    2, 3, 1, 3, 0, 8, 1, 3,                      /* 8: 2 [s3 c8 s3] */
-    2, 3, 1, 3, 0, 9, 1, 3,                      /* 9: 2 [s3 c9 s3] */
+    2, 1, CONSTANT(10),
+    2, 1, CONSTANT(11),
+    3, 1, CONSTANT(12),
+    4, 1, CONSTANT(13),
+    3, 1, SLOT(4, 1),
+    2, 2, CONSTANT(14), SLOT(2, 1),
+    2, 5, CONSTANT(5), SLOT(2, 1), CONSTANT(7), SLOT(2, 2), CONSTANT(6),
+    2, 3, SLOT(3, 65535), CONSTANT(8), SLOT(3, 1),
+    2, 3, SLOT(3, 1), CONSTANT(9), SLOT(3, 2),
 };
 
 static const uint32_t node_words[S_NODES] = {0, 1, 2, 3, 4, 0, 6, 0, 0, 0, 0, 7, 0, 0, 8, 0, 9};
@@ -41,11 +42,11 @@ static const uint32_t ten_pass_words[] = {1, 5, 10, 7, 11, 6};
 static const uint32_t ten_pass_list_words[] = {1, 2, 7};
 
 static const uint32_t e_rules[] = {
-    3, 1, 0, 20,                                 /* 1: 3 [c20] */
-    2, 1, 0, 21,                                 /* 2: 2 [c21] */
-    2, 3, 1, 3, 0, 8, 1, 3,                      /* 3: 2 [s3 c8 s3] */
-    3, 5, 0, 5, 1, 3, 0, 9, 1, 3, 0, 6,          /* 4: 3 [c5 s3 c9 s3 c6] */
-    2, 5, 0, 5, 1, 2, 0, 7, 1, 2, 0, 6,          /* 5: 2 [c5 s2 c7 s2 c6] */
+    3, 1, CONSTANT(20),
+    2, 1, CONSTANT(21),
+    2, 3, SLOT(3, 1), CONSTANT(8), SLOT(3, 2),
+    3, 5, CONSTANT(5), SLOT(3, 1), CONSTANT(9), SLOT(3, 2), CONSTANT(6),
+    2, 5, CONSTANT(5), SLOT(2, 1), CONSTANT(7), SLOT(2, 2), CONSTANT(6),
 };
 static const uint32_t e_path[] = {JIEHKAVON_GARDEN_PATH, 2, 2, 0, 5, 1, 3, 0, 5, 1, 2};
 static const uint32_t e_nodes[E_NODES] = {0, 1, 2, 0, 0, 3, 0, 0, 0, 0, 4, 0, 0, 0, 5, 0};
@@ -72,7 +73,7 @@ static const uint32_t e_edges[E_EDGES][16] = {
 static const uint32_t e_tokens[] = {1, 5, 20, 8, 20, 7, 21, 6};
 static const uint32_t e_list[] = {1, 1, 3, 2, 5};
 
-static const uint32_t one_rule[] = {2, 1, 0, 10};
+static const uint32_t one_rule[] = {2, 1, CONSTANT(10)};
 static const uint32_t one_nodes[] = {0, 1};
 static const uint32_t one_edge[16] = {0, 0, 10, 1};
 static const uint32_t one_tokens[] = {1, 10};

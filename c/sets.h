@@ -11,6 +11,10 @@
 #define WORDS(array) {(uint32_t *)(array), LENGTH(array)}
 #define SLICE(array) ((slice)WORDS(array))
 
+/* The words of an item in a rule. */
+#define CONSTANT(symbol) 0, symbol, 0
+#define SLOT(typecode, variable) 1, typecode, variable
+
 enum { PROVABLE = 1, LOGIC = 2, S_NODES = 17, S_EDGES = 19 };
 
 extern const slice rules_s, nodes_s, edges_s;

@@ -35,7 +35,7 @@ static void check_call(const call *c, const expected *e, const char *what) {
 
 static void check_bodies(void) {
     static const uint32_t stretches[][3] = {
-        {0, 0, 0}, {1, 2, 2}, {2, 6, 2}, {3, 10, 2}, {4, 14, 2}, {5, 18, 2}, {6, 22, 4}, {7, 28, 10}, {8, 40, 6}, {9, 48, 6}, {10, 0, 0},
+        {0, 0, 0}, {1, 2, 3}, {2, 7, 3}, {3, 12, 3}, {4, 17, 3}, {5, 22, 3}, {6, 27, 6}, {7, 35, 15}, {8, 52, 9}, {9, 63, 9}, {10, 0, 0},
         {2049, 0, 0}, {UINT32_MAX, 0, 0},
     };
     for (size_t i = 0; i < LENGTH(stretches); i++) {
@@ -78,16 +78,32 @@ static void check_builds(void) {
 /* Rules that can't be built, whatever the room. */
 static void check_refused_builds(void) {
     static const uint32_t empty_body[] = {2, 0};
-    static const uint32_t collision[] = {2, 1, 0, 10, 3, 2, 0, 10, 0, 11};
-    static const uint32_t six_links[] = {20, 1, 0, 30, 2, 2, 0, 31, 1, 26, 26, 1, 1, 25, 25, 1, 1, 24,
-                                         24, 1, 1, 23, 23, 1, 1, 22, 22, 1, 1, 21, 21, 1, 1, 20};
-    static const uint32_t bad_copy[] = {2, 2, 0, 10, 1, 2, 2, 2, 0, 10, 1, 3, 2, 1, 1, 3};
+    static const uint32_t old_form[] = {2, 1, 0, 10};
+    static const uint32_t third_of_constant[] = {2, 1, 0, 10, 1};
+    static const uint32_t no_variable[] = {2, 1, SLOT(3, 0)};
+    static const uint32_t past_the_last[] = {2, 1, SLOT(3, 65536)};
+    static const uint32_t twice[] = {2, 2, SLOT(3, 7), SLOT(4, 7)};
+    static const uint32_t twice_and_apart[] = {2, 4, SLOT(3, 7), CONSTANT(10), SLOT(3, 8), SLOT(3, 7)};
+    static const uint32_t equal_ends[] = {2, 1, SLOT(2, 9)};
+    static const uint32_t collision[] = {2, 1, CONSTANT(10), 3, 2, CONSTANT(10), CONSTANT(11)};
+    static const uint32_t other_variable[] = {2, 2, CONSTANT(10), SLOT(2, 5), 2, 2, CONSTANT(10), SLOT(2, 6)};
+    static const uint32_t six_links[] = {20, 1, CONSTANT(30), 2, 2, CONSTANT(31), SLOT(26, 1), 26, 1, SLOT(25, 1), 25, 1, SLOT(24, 1),
+                                         24, 1, SLOT(23, 1), 23, 1, SLOT(22, 1), 22, 1, SLOT(21, 1), 21, 1, SLOT(20, 1)};
+    static const uint32_t bad_copy[] = {2, 2, CONSTANT(10), SLOT(2, 1), 2, 2, CONSTANT(10), SLOT(3, 1), 2, 1, SLOT(3, 1)};
     const struct {
         slice rules;
         uint32_t number;
     } rows[] = {
         {WORDS(empty_body), JIEHKAVON_BAD_RULES},
+        {WORDS(old_form), JIEHKAVON_BAD_RULES},
+        {WORDS(third_of_constant), JIEHKAVON_BAD_RULES},
+        {WORDS(no_variable), JIEHKAVON_BAD_RULES},
+        {WORDS(past_the_last), JIEHKAVON_BAD_RULES},
+        {WORDS(twice), JIEHKAVON_BAD_RULES},
+        {WORDS(twice_and_apart), JIEHKAVON_BAD_RULES},
+        {WORDS(equal_ends), JIEHKAVON_BAD_RULES},
         {WORDS(collision), JIEHKAVON_COLLISION},
+        {WORDS(other_variable), JIEHKAVON_COLLISION},
         {WORDS(six_links), JIEHKAVON_SIXTH_REDUCE},
         {WORDS(bad_copy), JIEHKAVON_BAD_COPY},
     };
@@ -249,7 +265,7 @@ static void check_verifies(void) {
 
 /* Set T: the conversion at the end pops the frame that wants it. */
 static void check_set_t(void) {
-    static const uint32_t rules[] = {20, 1, 0, 30, 21, 1, 1, 20, 22, 1, 1, 21, 2, 2, 0, 31, 1, 22};
+    static const uint32_t rules[] = {20, 1, CONSTANT(30), 21, 1, SLOT(20, 1), 22, 1, SLOT(21, 1), 2, 2, CONSTANT(31), SLOT(22, 1)};
     static const uint32_t tokens[] = {1, 31, 30}, list[] = {1, 2, 3, 4};
     uint32_t nodes[9], edges[9 * JIEHKAVON_ROW_WIDTH];
     jiehkavon_built built =
@@ -303,12 +319,15 @@ static void check_garden_path(void) {
 
 /* Paths that copy until something gives out, in all the room that can be used. */
 static void check_garden_limits(void) {
-    static const uint32_t offsets[] = {2, 2, 1, 2, 1, 2, 2, 3, 0, 10, 1, 2, 0, 11, 2, 1, 1, 4, 2, 4, 0, 10, 0, 10, 1, 4, 0, 12};
+    static const uint32_t offsets[] = {2, 2, SLOT(2, 1), SLOT(2, 2), 2, 3, CONSTANT(10), SLOT(2, 1), CONSTANT(11), 2, 1, SLOT(4, 1),
+                                       2, 4, CONSTANT(10), CONSTANT(10), SLOT(4, 1), CONSTANT(12)};
     static const uint32_t offset_paths[] = {2, 1, 2, 2, 0, 10, 1, 4, 0, 10, 1, 2, 1, 3, 2, 0, 10, 0, 10, 1, 4, 0, 10, 1, 2};
-    static const uint32_t circle[] = {2, 2, 1, 2, 0, 11, 2, 3, 0, 10, 1, 2, 1, 2, 2, 1, 1, 4, 2, 4, 0, 10, 0, 10, 1, 2, 1, 2};
+    static const uint32_t circle[] = {2, 2, SLOT(2, 1), CONSTANT(11), 2, 3, CONSTANT(10), SLOT(2, 1), SLOT(2, 2), 2, 1, SLOT(4, 1),
+                                      2, 4, CONSTANT(10), CONSTANT(10), SLOT(2, 1), SLOT(2, 2)};
     static const uint32_t circle_paths[] = {2, 1, 2, 2, 0, 10, 1, 4, 0, 10, 1, 2, 1, 3, 3, 0, 10, 0, 10, 1, 4, 0, 10, 0,
                                             10, 1, 2, 1, 3, 2, 0, 10, 0, 10, 1, 2, 0, 10, 1, 2};
-    static const uint32_t runaway[] = {2, 3, 0, 10, 0, 10, 1, 2, 2, 4, 0, 10, 0, 10, 0, 10, 1, 2};
+    static const uint32_t runaway[] = {2, 3, CONSTANT(10), CONSTANT(10), SLOT(2, 1),
+                                       2, 4, CONSTANT(10), CONSTANT(10), CONSTANT(10), SLOT(2, 1)};
     static const uint32_t runaway_path[] = {1, 3, 3, 0, 10, 0, 10, 0, 10, 0, 10, 0, 10, 1, 2};
     const struct {
         slice rules, commands;

@@ -8,8 +8,10 @@
  * slices of their own.
  *
  * Every call but the reading of a package takes the provable and the logic typecode and the rules. A rule is its
- * result typecode, the number of its items, and two words for each item: 0 and a constant, or 1 and the typecode of a
- * slot. Rules are numbered from 1. A rule of one slot is a conversion.
+ * result typecode, the number of its items, and three words for each item: 0, a constant and 0, or 1, the typecode of a
+ * slot and its variable, a number of the caller's choice. No two slots of a rule may have one variable, since in
+ * Metamath both would have to get the same expression; in two rules one number means two variables. Rules are numbered
+ * from 1. A rule of one slot is a conversion.
  */
 #ifndef JIEHKAVON_H
 #define JIEHKAVON_H
@@ -34,8 +36,8 @@ enum {
                                     * fit a slice lent for it */
     JIEHKAVON_BAD_TABLES = 8,      /* the nodes or the edges are bad */
     JIEHKAVON_TOO_LONG = 9,        /* more than JIEHKAVON_MOST_TOKENS tokens */
-    JIEHKAVON_BAD_RULES = 10,      /* the rules, or the two typecodes, are bad */
-    JIEHKAVON_COLLISION = 11,      /* a body equals, begins or continues an earlier one */
+    JIEHKAVON_BAD_RULES = 10,      /* the rules, or the two typecodes, are bad; one variable in two slots is */
+    JIEHKAVON_COLLISION = 11,      /* a body equals, begins or continues an earlier one, whatever the variables are */
     JIEHKAVON_NODES_FULL = 12,     /* a node is needed and none is free */
     JIEHKAVON_EDGES_FULL = 13,     /* an edge is needed and none is free */
     JIEHKAVON_SIXTH_REDUCE = 14,   /* an edge, or a list on the way to one, would get a sixth reduce */
@@ -51,7 +53,7 @@ enum {
 
 /* Limits. What passes them is refused, by the numbers above. */
 enum {
-    JIEHKAVON_MOST_SYMBOL = 65535, /* symbols and typecodes are 1 to this */
+    JIEHKAVON_MOST_SYMBOL = 65535, /* symbols and typecodes are 1 to this, and so are variables */
     JIEHKAVON_MOST_RULES = 2048,
     JIEHKAVON_MOST_ITEMS = 32,     /* of a rule */
     JIEHKAVON_MOST_NODES = 8192,
@@ -64,7 +66,8 @@ enum {
 
 /* Sizes. */
 enum {
-    JIEHKAVON_ITEM_WIDTH = 2,      /* words of an item */
+    JIEHKAVON_ITEM_WIDTH = 3,      /* words of an item in a rule: kind, symbol, variable */
+    JIEHKAVON_PATH_ITEM_WIDTH = 2, /* words of an item in a garden path: kind and symbol */
     JIEHKAVON_ROW_WIDTH = 16,      /* words of an edge: from, kind, symbol, to, count, five times rule and offset, 0 */
     JIEHKAVON_CLONE_WIDTH = 16,    /* words of a frame that a build is lent; one of a parse is a single word */
     JIEHKAVON_PASSES_A_TOKEN = 4,  /* passes for each token after the typecode that are always enough */
@@ -123,8 +126,8 @@ typedef struct jiehkavon_stretch {
     uint32_t length;
 } jiehkavon_stretch;
 
-/* Where the body of rule `rule` stands in the rules: two words for each item. It is empty if there is no such rule, or
- * if any rule is bad. */
+/* Where the body of rule `rule` stands in the rules: three words for each item. It is empty if there is no such rule,
+ * or if any rule is bad. */
 jiehkavon_stretch jiehkavon_body(
     uint32_t provable, uint32_t logic,
     const uint32_t *rules, size_t rules_length,
@@ -132,7 +135,8 @@ jiehkavon_stretch jiehkavon_body(
 
 /* The first word of a command. */
 enum {
-    JIEHKAVON_GARDEN_PATH = 1,     /* then the items of its prefix, the items of its shadow, and both, two words an item */
+    JIEHKAVON_GARDEN_PATH = 1,     /* then the number of items of its prefix, that of its shadow, and the items of both,
+                                    * two words each: no slot has a variable here */
     JIEHKAVON_TYPE_CONVERSIONS = 2 /* nothing more */
 };
 
@@ -182,12 +186,15 @@ jiehkavon_answer jiehkavon_verify(
  *   kind 2   a rule, as in the rule slice
  *   kind 3   the tokens of a statement, the typecode first; after all rules
  *   kind 4   nothing; the end
+ *   kind 5   a rule in the old form, two words for each item; it is read as one whose slots have the variables 1, 2, 3
+ *            and so on, and stands where kind 2 may
  *
  * In a slice of words a statement is the number of its tokens, then its tokens. */
 
-/* Words that are enough for the rules of a package of so many bytes, and as many for its statements. */
+/* Words that are enough for the rules of a package of so many bytes, and as many for its statements: three for eight
+ * bytes, since a rule in the old form has more words than its record. */
 static inline size_t jiehkavon_enough_words(size_t bytes) {
-    return bytes / 4;
+    return 3 * (bytes / 8 + 1);
 }
 
 /* Bytes that are enough for the package of rules and statements of so many words. */
@@ -222,8 +229,9 @@ jiehkavon_package jiehkavon_package_read(
     uint32_t *statements, size_t statements_length);
 
 /* Writes a package to the front of `bytes`, zeros after it. If refused, `bytes` is zero: 10, then 22 for a statement
- * of 2^30 tokens or more and for words that end within a statement, then 7. Reading what was written gives the same
- * typecodes, rules and statements; writing what was read gives the same bytes. */
+ * of 2^30 tokens or more and for words that end within a statement, then 7. Rules are written as kind 2. Reading what
+ * was written gives the same typecodes, rules and statements; writing what was read gives the same bytes, where no rule
+ * was read as kind 5. */
 jiehkavon_written jiehkavon_package_write(
     uint32_t provable, uint32_t logic,
     const uint32_t *rules, size_t rules_length,

@@ -3,7 +3,7 @@
 use std::collections::HashMap;
 use std::error::Error;
 
-use jiehkavon::{Grammar, Item, ParseError, Parser, RuleNo, Rules, Statement, Subtree, Symbol};
+use jiehkavon::{Grammar, Label, ParseError, Parser, RuleNo, Rules, Statement, Subtree, Symbol};
 
 /// Gives each name a symbol of its own, in the order in which they come up.
 #[derive(Default)]
@@ -22,10 +22,10 @@ impl Names {
     }
 
     /// Words in angle brackets are slots.
-    fn item(&mut self, word: &str) -> Result<Item, Box<dyn Error>> {
+    fn label(&mut self, word: &str) -> Result<Label, Box<dyn Error>> {
         match word.strip_prefix('<').and_then(|word| word.strip_suffix('>')) {
-            Some(typecode) => Ok(Item::Slot(self.symbol(typecode)?)),
-            None => Ok(Item::Constant(self.symbol(word)?)),
+            Some(typecode) => Ok(Label::Slot(self.symbol(typecode)?)),
+            None => Ok(Label::Constant(self.symbol(word)?)),
         }
     }
 
@@ -37,7 +37,7 @@ impl Names {
 
 type Titles = HashMap<RuleNo, &'static str>;
 
-/// Each rule has a title, a result and a body.
+/// Each rule has a title, a result and a body. No slot names a variable: each is one of its own.
 const RULES: [(&str, &str, &str); 8] = [
     ("level low", "wff", "low"),
     ("level high", "wff", "high"),
@@ -54,8 +54,8 @@ fn grammar(names: &mut Names) -> Result<(Grammar, Titles), Box<dyn Error>> {
     let mut rules = Rules::new(names.symbol("|-")?, names.symbol("wff")?);
     let mut titles = Titles::new();
     for (title, result, body) in RULES {
-        let items: Result<Vec<Item>, _> = body.split_whitespace().map(|word| names.item(word)).collect();
-        titles.insert(rules.push(names.symbol(result)?, &items?), title);
+        let labels: Result<Vec<Label>, _> = body.split_whitespace().map(|word| names.label(word)).collect();
+        titles.insert(rules.push_numbered(names.symbol(result)?, &labels?), title);
     }
     Ok((Grammar::build(rules)?, titles))
 }

@@ -5,7 +5,7 @@ use std::collections::HashSet;
 use crate::errors::{BuildError, RefusedRules};
 use crate::grammar::Grammar;
 use crate::limits::{FRAME_WIDTH, MOST_CLONES, MOST_EDGES, MOST_NODES, ROW_WIDTH};
-use crate::numbers::Item;
+use crate::numbers::{Item, Label};
 use crate::rules::Rules;
 use crate::tables::Tables;
 use crate::words;
@@ -16,9 +16,9 @@ pub enum Command {
     /// What the prefix begins is also known as what the shadow has a slot for.
     GardenPath {
         /// Items that lead into the tree, from node 0 on.
-        prefix: Vec<Item>,
+        prefix: Vec<Label>,
         /// The same items up to where it has a slot instead.
-        shadow: Vec<Item>,
+        shadow: Vec<Label>,
     },
     /// The rules of one slot.
     TypeConversions,
@@ -33,7 +33,7 @@ impl Command {
                 let counts = [prefix, shadow].map(|list| u32::try_from(list.len()).unwrap_or(u32::MAX));
                 words.push(1);
                 words.extend(counts);
-                words.extend(prefix.iter().chain(shadow).flat_map(|item| item.words()));
+                words.extend(prefix.iter().chain(shadow).flat_map(|label| label.words()));
             }
         }
     }
@@ -45,27 +45,27 @@ impl Command {
 /// is lost where the class turns out to begin a wff. The garden path of the prefix `( A` and the shadow `( ph` tells the tree that.
 ///
 /// ```
-/// use jiehkavon::{Grammar, Item, Rules, Statement, Symbol};
+/// use jiehkavon::{Grammar, Label, Rules, Statement, Symbol};
 ///
 /// # fn main() -> Result<(), Box<dyn std::error::Error>> {
 /// let symbol = |word: u32| Symbol::try_from(word);
 /// let (provable, wff, class) = (symbol(1)?, symbol(2)?, symbol(3)?);
-/// let [open, close, implies, equals, plus] = [5, 6, 7, 8, 9].map(|word| Item::Constant(symbol(word).unwrap()));
+/// let [open, close, implies, equals, plus] = [5, 6, 7, 8, 9].map(|word| Label::Constant(symbol(word).unwrap()));
 /// let (a, p) = (symbol(20)?, symbol(21)?);
 ///
 /// let mut rules = Rules::new(provable, wff);
-/// rules.push(class, &[Item::Constant(a)]);
-/// rules.push(wff, &[Item::Constant(p)]);
-/// rules.push(wff, &[Item::Slot(class), equals, Item::Slot(class)]);
-/// rules.push(class, &[open, Item::Slot(class), plus, Item::Slot(class), close]);
-/// rules.push(wff, &[open, Item::Slot(wff), implies, Item::Slot(wff), close]);
+/// rules.push_numbered(class, &[Label::Constant(a)]);
+/// rules.push_numbered(wff, &[Label::Constant(p)]);
+/// rules.push_numbered(wff, &[Label::Slot(class), equals, Label::Slot(class)]);
+/// rules.push_numbered(class, &[open, Label::Slot(class), plus, Label::Slot(class), close]);
+/// rules.push_numbered(wff, &[open, Label::Slot(wff), implies, Label::Slot(wff), close]);
 ///
 /// // ( a = a -> p )
 /// let statement: Statement = [1, 5, 20, 8, 20, 7, 21, 6].map(|word| symbol(word).unwrap()).into_iter().collect();
 /// assert_eq!(Grammar::build(rules.clone())?.parse(&statement).unwrap_err().number(), 2);
 ///
 /// let grammar = Grammar::builder(rules)
-///     .garden_path(&[open, Item::Slot(class)], &[open, Item::Slot(wff)])
+///     .garden_path(&[open, Label::Slot(class)], &[open, Label::Slot(wff)])
 ///     .type_conversions()
 ///     .build()?;
 /// assert_eq!(grammar.parse(&statement)?.to_string(), "1 1 3 2 5");
@@ -88,7 +88,7 @@ impl GrammarBuilder {
 
     /// A further command: a garden path.
     #[must_use]
-    pub fn garden_path(self, prefix: &[Item], shadow: &[Item]) -> GrammarBuilder {
+    pub fn garden_path(self, prefix: &[Label], shadow: &[Label]) -> GrammarBuilder {
         self.command(Command::GardenPath {
             prefix: prefix.to_vec(),
             shadow: shadow.to_vec(),
@@ -151,7 +151,7 @@ impl GrammarBuilder {
         let mut rules = Rules::new(self.rules.provable(), self.rules.logic());
         for rule in self.rules.numbers() {
             match (self.rules.result(rule), self.rules.items(rule)) {
-                (Some(_), Some([Item::Slot(_)])) | (None, _) | (_, None) => {}
+                (Some(_), Some([Item::Slot { .. }])) | (None, _) | (_, None) => {}
                 (Some(result), Some(items)) => drop(rules.push(result, items)),
             }
         }
@@ -207,10 +207,10 @@ struct Room {
 impl Room {
     fn of(rules: &Rules) -> Room {
         let bodies = || rules.numbers().filter_map(|rule| rules.items(rule));
-        let placed = || bodies().filter(|items| !matches!(items, [Item::Slot(_)]));
+        let placed = || bodies().filter(|items| !matches!(items, [Item::Slot { .. }]));
         let items: usize = placed().map(|items| items.len()).sum();
         let branches = 1 + items.saturating_sub(placed().count());
-        let labels: HashSet<Item> = bodies().flatten().copied().collect();
+        let labels: HashSet<Label> = bodies().flatten().map(|item| item.label()).collect();
         Room {
             nodes: MOST_NODES.min(1 + items),
             edges: MOST_EDGES.min(branches.saturating_mul(labels.len())),

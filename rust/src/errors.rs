@@ -13,7 +13,8 @@ pub enum BuildError {
     /// 6: a garden path needs a frame and none is free. A [`Grammar`](crate::Grammar) lends enough, so it never says this; it is there for
     /// callers of [`words`](crate::words).
     FramesFull,
-    /// 10: a word of the rules is out of its range, a result is the provable typecode, or the provable and the logic typecode are one.
+    /// 10: a word of the rules is out of its range, a rule has one variable in two slots, a result is the provable typecode, or the provable and the
+    /// logic typecode are one.
     BadRules,
     /// 11: a rule's body equals, begins or continues that of an earlier rule.
     Collision,

@@ -102,7 +102,7 @@ impl<'r> Tree<'r> {
     /// An entry for `rule`, with as many of the last roots for children as it has slots.
     fn adopt(&mut self, rule: RuleNo, rules: &'r Rules, roots: &mut Vec<usize>) -> Option<Entry<'r>> {
         let items = rules.items(rule)?;
-        let slots = items.iter().filter(|item| matches!(item, Item::Slot(_))).count();
+        let slots = items.iter().filter(|item| matches!(item, Item::Slot { .. })).count();
         let start = self.children.len();
         self.children.extend(roots.drain(roots.len().checked_sub(slots)?..));
         Some(Entry {
@@ -181,7 +181,7 @@ impl<'t> Subtree<'t> {
         while let Some((items, children)) = open.last_mut() {
             match items.next() {
                 Some(Item::Constant(symbol)) => tokens.push(*symbol),
-                Some(Item::Slot(_)) => {
+                Some(Item::Slot { .. }) => {
                     let child = children.next().map(|&place| self.tree.parts(place));
                     open.extend(child);
                 }

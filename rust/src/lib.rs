@@ -5,20 +5,21 @@
 //! statement, without the tree.
 //!
 //! ```
-//! use jiehkavon::{Formula, Grammar, Item, ParseError, Rules, Statement, Symbol};
+//! use jiehkavon::{Formula, Grammar, Item, ParseError, Rules, Statement, Symbol, Variable};
 //!
 //! # fn main() -> Result<(), Box<dyn std::error::Error>> {
 //! let (provable, logic) = (Symbol::try_from(1)?, Symbol::try_from(2)?);
 //! let (open, close, and) = (Symbol::try_from(5)?, Symbol::try_from(6)?, Symbol::try_from(7)?);
 //! let (low, dry) = (Symbol::try_from(10)?, Symbol::try_from(11)?);
 //!
-//! // two variables, and ( x and y ) for any x and y
+//! // two variables, and ( low and dry ) for any expressions in their place
+//! let slot = |variable| Item::Slot { typecode: logic, variable: Variable(variable) };
 //! let mut rules = Rules::new(provable, logic);
 //! let low_rule = rules.push(logic, &[Item::Constant(low)]);
 //! let dry_rule = rules.push(logic, &[Item::Constant(dry)]);
 //! let and_rule = rules.push(
 //!     logic,
-//!     &[Item::Constant(open), Item::Slot(logic), Item::Constant(and), Item::Slot(logic), Item::Constant(close)],
+//!     &[Item::Constant(open), slot(low), Item::Constant(and), slot(dry), Item::Constant(close)],
 //! );
 //! let grammar = Grammar::build(rules)?;
 //!
@@ -71,7 +72,7 @@ pub use commands::{Command, GrammarBuilder};
 pub use errors::{BuildError, ParseError, ReadError, RefusedRules, VerifyError, WriteError};
 pub use formula::{Formula, Preorder, Subtree, Tree};
 pub use grammar::Grammar;
-pub use numbers::{Item, NodeNo, NotASymbol, RuleNo, Symbol};
+pub use numbers::{Item, Label, NodeNo, NotASymbol, RuleNo, Symbol, Variable};
 pub use package::Package;
 pub use parser::{Parsed, Parser, Room};
 pub use rules::Rules;

@@ -21,8 +21,11 @@ pub const MOST_OFFSET: u32 = 255;
 /// The tokens of a statement, its typecode among them.
 pub const MOST_TOKENS: usize = 32_769;
 
-/// The words of an item: its kind and its symbol.
-pub const ITEM_WIDTH: usize = 2;
+/// The words of a rule's item: its kind, its symbol and its variable.
+pub const ITEM_WIDTH: usize = 3;
+
+/// The words of an item in a garden path: its kind and its symbol.
+pub const LABEL_WIDTH: usize = 2;
 
 /// The words of an edge.
 pub const ROW_WIDTH: usize = 16;

@@ -7,6 +7,8 @@ use crate::words;
 
 /// Rules, and statements over them, that travel as one file.
 ///
+/// A rule may be in the old form, without variables. It is read as one whose slots have the variables 1, 2, 3 and so on.
+///
 /// A package of any length is read and written; the room for both is worked out, so that [`ReadError::RoomTooShort`] and
 /// [`WriteError::RoomTooShort`] never come back from here. They are there for callers of [`words`](crate::words) who lend less.
 #[derive(Clone, Debug, PartialEq, Eq)]
@@ -39,8 +41,7 @@ impl Package {
 
     /// What the bytes of a file say, or why they are no package.
     pub fn read(bytes: &[u8]) -> Result<Package, ReadError> {
-        let room = words_of(bytes.len());
-        let (mut rule_words, mut words) = (vec![0; room], vec![0; room]);
+        let (mut rule_words, mut words) = (vec![0; rule_words_of(bytes.len())], vec![0; words_of(bytes.len())]);
         let read = words::package_read(bytes, &mut rule_words, &mut words);
         if let Some(refusal) = ReadError::of(read) {
             return Err(refusal);
@@ -56,7 +57,8 @@ impl Package {
         })
     }
 
-    /// The bytes of the file. Reading them gives this package again, and where `read` gave a package, these are the bytes that were read.
+    /// The bytes of the file. Reading them gives this package again. Where `read` gave a package, these are the bytes that were read, unless a rule was in
+    /// the old form, without variables: what is written has the new form only.
     pub fn write(&self) -> Result<Vec<u8>, WriteError> {
         let rules = &self.rules;
         let mut bytes = vec![0; self.bytes()];
@@ -123,10 +125,16 @@ const HEAD: usize = 6;
 /// The bytes of a word.
 const WORD: usize = 4;
 
-/// Words that are enough for the rules of a package, and for its statements, by its length in bytes. A rule is in a record of 6 bytes and 4 for
-/// each of its words. A statement of k tokens is in one of 6 + 4k bytes and needs k + 1 words. So no word needs less than 4 bytes.
+/// Words that are enough for the statements of a package, by its length in bytes. One of k tokens is in a record of 6 + 4k bytes and needs k + 1
+/// words, so no word needs less than 4 bytes.
 fn words_of(bytes: usize) -> usize {
     bytes / WORD
+}
+
+/// Words that are enough for the rules of a package. One of L items needs 2 + 3L words. It is in a record of 14 + 12L bytes, or in the old form of
+/// 14 + 8L bytes, so no three words need less than 8 bytes.
+fn rule_words_of(bytes: usize) -> usize {
+    3 * bytes.div_ceil(8)
 }
 
 /// The rules of some words with two typecodes; none if any of these is bad.

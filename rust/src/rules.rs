@@ -2,7 +2,7 @@
 
 use crate::errors::BuildError;
 use crate::limits::ITEM_WIDTH;
-use crate::numbers::{Item, RuleNo, Symbol};
+use crate::numbers::{Item, Label, RuleNo, Symbol};
 use crate::words;
 
 /// A rule as it was pushed: its result, and where its items begin among all items.
@@ -49,8 +49,27 @@ impl Rules {
         Ok(rules)
     }
 
-    /// A further rule, and its number. A variable is a rule whose body is one constant, the variable's own symbol; a conversion is one whose
+    /// A further rule, and its number. A variable has a rule whose body is one constant, the variable's own symbol; a conversion is a rule whose
     /// body is one slot.
+    ///
+    /// ```
+    /// use jiehkavon::{BuildError, Grammar, Item, Rules, Symbol, Variable};
+    ///
+    /// # fn main() -> Result<(), Box<dyn std::error::Error>> {
+    /// let symbol = |word: u32| Symbol::try_from(word);
+    /// let (wff, implies) = (symbol(2)?, Item::Constant(symbol(7)?));
+    /// let [p, q] = [symbol(20)?, symbol(21)?].map(|variable| Item::Slot { typecode: wff, variable: Variable(variable) });
+    ///
+    /// let mut rules = Rules::new(symbol(1)?, wff);
+    /// rules.push(wff, &[p, implies, q]);
+    /// assert!(Grammar::build(rules.clone()).is_ok());
+    ///
+    /// // in p -> p both places have to get the same expression, which no tree can see to
+    /// rules.push(wff, &[p, implies, p]);
+    /// assert_eq!(Grammar::build(rules).unwrap_err().why(), BuildError::BadRules);
+    /// # Ok(())
+    /// # }
+    /// ```
     pub fn push(&mut self, result: Symbol, items: &[Item]) -> RuleNo {
         self.heads.push(Head {
             result,
@@ -63,6 +82,11 @@ impl Rules {
         RuleNo(u32::try_from(self.heads.len()).unwrap_or(u32::MAX))
     }
 
+    /// A further rule whose slots are for different variables, no matter which: they get the variables 1, 2, 3 and so on.
+    pub fn push_numbered(&mut self, result: Symbol, labels: &[Label]) -> RuleNo {
+        self.push(result, &Label::numbered(labels))
+    }
+
     /// The rule at the front of `words` is pushed; what follows it is given back.
     fn push_words<'w>(&mut self, words: &'w [u32]) -> Option<&'w [u32]> {
         let (&result, words) = words.split_first()?;
@@ -71,7 +95,7 @@ impl Rules {
         let items: Option<Vec<Item>> = words
             .get(..size)?
             .chunks_exact(ITEM_WIDTH)
-            .map(|pair| Item::from_words(pair[0], pair[1]))
+            .map(|words| Item::from_words([words[0], words[1], words[2]]))
             .collect();
         self.push(Symbol::new(result)?, &items?);
         words.get(size..)

@@ -1,7 +1,7 @@
 //! The tree's two tables, as words and as what the words say.
 
 use crate::limits::{MOST_REDUCES, ROW_WIDTH};
-use crate::numbers::{Item, NodeNo, RuleNo};
+use crate::numbers::{Label, NodeNo, RuleNo};
 
 /// Nodes and edges of a tree, made by a build or brought from outside.
 #[derive(Clone, Debug, PartialEq, Eq)]
@@ -34,7 +34,7 @@ pub struct Edge {
     /// The node that it leaves.
     pub from: NodeNo,
     /// What has to be met for it to be followed.
-    pub item: Item,
+    pub label: Label,
     /// The node that it leads to.
     pub to: NodeNo,
     /// What is reduced when it is followed, in order.
@@ -82,7 +82,7 @@ fn edge(row: &[u32]) -> Option<Edge> {
     let count = usize::try_from(count).ok().filter(|&count| count <= MOST_REDUCES)?;
     Some(Edge {
         from: NodeNo(from),
-        item: Item::from_words(kind, symbol)?,
+        label: Label::from_words([kind, symbol])?,
         to: NodeNo(to),
         reduces: pairs
             .chunks_exact(2)

@@ -35,7 +35,7 @@ pub struct Built {
 pub struct Stretch {
     /// The word that it begins with.
     pub start: u32,
-    /// How many words it has, two for each item.
+    /// How many words it has, three for each item.
     pub length: u32,
 }
 
@@ -151,7 +151,8 @@ pub fn body(provable: u32, logic: u32, rules: &[u32], rule: u32) -> Stretch {
 /// The tree of the rules and of the commands that are run after them, in two slices of any length and content.
 ///
 /// The commands are run in the order given. The word 2 asks for the type conversions. A garden path is the word 1, the number of items of its
-/// prefix, that of its shadow, and the items of both, two words each as in a rule. Where no command asks for the conversions, they come last.
+/// prefix, that of its shadow, and the items of both, two words each, which are a rule's without the variable. Where no command asks for the
+/// conversions, they come last.
 ///
 /// A garden path may need frames, of [`FRAME_WIDTH`](crate::limits::FRAME_WIDTH) words each, and
 /// [`MOST_CLONES`](crate::limits::MOST_CLONES) are always enough; no other command needs any. They are zero afterwards.

@@ -3,7 +3,7 @@
 use std::alloc::{GlobalAlloc, Layout, System};
 use std::cell::Cell;
 
-use jiehkavon::{Grammar, Item, Parser, Rules, Statement, Symbol};
+use jiehkavon::{Grammar, Label, Parser, Rules, Statement, Symbol};
 
 struct Counting;
 
@@ -41,8 +41,8 @@ fn symbol(word: u32) -> Symbol {
 /// One variable c10, and c14 before a formula.
 fn grammar() -> Grammar {
     let mut rules = Rules::new(symbol(1), symbol(2));
-    rules.push(symbol(2), &[Item::Constant(symbol(10))]);
-    rules.push(symbol(2), &[Item::Constant(symbol(14)), Item::Slot(symbol(2))]);
+    rules.push_numbered(symbol(2), &[Label::Constant(symbol(10))]);
+    rules.push_numbered(symbol(2), &[Label::Constant(symbol(14)), Label::Slot(symbol(2))]);
     Grammar::build(rules).expect("a tree")
 }
 

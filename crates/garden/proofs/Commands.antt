@@ -7,7 +7,7 @@ use Prim.Native.Nat.{ℕ, zero, suc, _+_, _*_, _-_, _≤_, _<_}
 use native.Mathlib.Omega.{arith}
 use lib.Dec.{eqb, ltb}
 use lib.ListN.{length, getD, take, drop, length-drop, drop-of-length-le}
-use lib.Seq.{length-take-le, drop-drop}
+use lib.Seq.{length-take-le, drop-cons, drop-drop}
 use borrow.Author.Tests.{lt-ltb, le-ltb, ne-eqb, ltb-false, not-true}
 use Rattle.words.specs.laws.Tests.{and-l, and-r, by-test}
 use Rattle.words.specs.Outcome.{Res, ok, no, bind, pick}

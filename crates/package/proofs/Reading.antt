@@ -19,12 +19,12 @@ use Rattle.words.specs.laws.Faults.{met, unmet}
 use Rattle.words.specs.laws.Parts.{part-all}
 use Rattle.rules.specs.Rules.{rulesGood}
 use Rattle.package.specs.Bytes.{little, wordsOf}
-use Rattle.package.specs.Package.{Package, Read, typecodes, oneRule, statement, theEnd, nothing, recordSize, kindOf, bodyOf, sized, recordDemands, Refusal, refusal, putWords, ended, afterHead, scan, says, notRead, readDemands, readAfter, readBy, readGives}
+use Rattle.package.specs.Package.{Package, Read, typecodes, oneRule, oldRule, statement, theEnd, nothing, recordSize, kindOf, bodyOf, sized, recordDemands, Refusal, refusal, renewed, putWords, ended, scan, says, notRead, readDemands, readAfter, readBy, readGives}
 use Rattle.package.specs.Code.{foundIn, Holds, Put, refusedIs, Stands, Takes, Small, Scanned, readIs, Settled}
 use Rattle.package.specs.declared.Package as code
 use Rattle.package.specs.declared.Found.the-variants.{Record, Refused}
 use Rattle.package.specs.laws.Bytes.{words-length, word-small}
-use Rattle.package.specs.laws.Records.{faultless, scan-record}
+use Rattle.package.specs.laws.Records.{faultless, scan-record, scan-refused, ended-more}
 use Rattle.package.specs.laws.Few.{Few, few-more, counted-last}
 use Rattle.package.proofs.Numbers.{word-at, items-at}
 use Rattle.package.proofs.Heads.{found-record, found-refused}
@@ -79,23 +79,39 @@ stands-typecodes p q rs ss body a b l ea eb s = record {
   statement-words = s .statement-words;
 }
 
+-- a rule's words, up to n
+stands-words : (p : code.Package) (q : Package) (rs ss rs′ ws : List ℕ) (n : ℕ) → length rs′ ≡ length rs → Put rs (p .rules) ws rs′ → n ≡ p .rules + length ws
+    → Stands p q rs ss
+    → Stands
+    (record { number = 0; place = 0; provable = p .provable; logic = p .logic; rules = n; statements = p .statements; words = p .words })
+    (record { provable = q .provable; logic = q .logic; rules = q .rules ++ ws; statements = q .statements }) rs′ ss
+stands-words p q rs ss rs′ ws n l put e s = record {
+  number = refl;
+  place = refl;
+  provable = s .provable;
+  logic = s .logic;
+  rules = omega (arith, s .rules, length-append (q .rules) ws);
+  statements = s .statements;
+  words = s .words;
+  rule-words = put-holds rs rs′ (q .rules) ws (p .rules) (s .rules) l (s .rule-words) put;
+  statement-words = s .statement-words;
+}
+
 pub stands-rule : (p : code.Package) (q : Package) (rs ss rs′ body : List ℕ) → length rs′ ≡ length rs → Put rs (p .rules) (wordsOf body) rs′
     → Stands p q rs ss
     → Stands
     (record { number = 0; place = 0; provable = p .provable; logic = p .logic; rules = p .rules + length body / 4; statements = p .statements; words = p .words })
     (putWords q oneRule (wordsOf body)) rs′ ss
 unfolding putWords
-stands-rule p q rs ss rs′ body l put s = record {
-  number = refl;
-  place = refl;
-  provable = s .provable;
-  logic = s .logic;
-  rules = omega (arith, s .rules, length-append (q .rules) (wordsOf body), words-length body);
-  statements = s .statements;
-  words = s .words;
-  rule-words = put-holds rs rs′ (q .rules) (wordsOf body) (p .rules) (s .rules) l (s .rule-words) put;
-  statement-words = s .statement-words;
-}
+stands-rule p q rs ss rs′ body l put s = stands-words p q rs ss rs′ (wordsOf body) (p .rules + length body / 4) l put (omega (arith, words-length body)) s
+
+pub stands-old-rule : (p : code.Package) (q : Package) (rs ss rs′ body : List ℕ) (n : ℕ) → length rs′ ≡ length rs
+    → Put rs (p .rules) (renewed (wordsOf body)) rs′ × (n ≡ p .rules + length (renewed (wordsOf body))) → Stands p q rs ss
+    → Stands
+    (record { number = 0; place = 0; provable = p .provable; logic = p .logic; rules = n; statements = p .statements; words = p .words })
+    (putWords q oldRule (wordsOf body)) rs′ ss
+unfolding putWords
+stands-old-rule p q rs ss rs′ body n l put s = stands-words p q rs ss rs′ (renewed (wordsOf body)) n l (put .0) (put .1) s
 
 -- the slice before, with the count, and with the tokens too
 pub stands-statement : (p : code.Package) (q : Package) (rs ss ss₁ ss₂ body : List ℕ) → length ss₁ ≡ length ss → length ss₂ ≡ length ss₁
@@ -147,19 +163,6 @@ found-next bs last kind size e =
       inside = omega (arith, f .fits .inside, h .size-is);
       body-sized = rw (← (h .kind-is)) (f .body-sized);
     }
-
-no-record : (k last : ℕ) (q : Package) (bs : List ℕ) (n : ℕ) → bs ≡ [] → firstFault (recordDemands last bs) ≡ n
-    → scan 0 k last q bs ≡ no (refusal n k)
-unfolding scan firstFault
-no-record k last q bs n e h = let z : wrongOrder ≡ n = rw e at h in rw (← z)
-
-scan-refused : (f k last : ℕ) (q : Package) (bs : List ℕ) (n : ℕ) → length bs ≤ f → firstFault (recordDemands last bs) ≡ n → 1 ≤ n
-    → scan f k last q bs ≡ no (refusal n k)
-unfolding scan afterHead
-scan-refused zero k last q [] n l h p = no-record k last q [] n refl h
-scan-refused zero k last q (b ∷ bs) n l h p = absurd (omega arith)
-scan-refused (suc f) k last q bs zero l h p = absurd (omega arith)
-scan-refused (suc f) k last q bs (suc n) l h p = rw h
 
 -- k records are read, up to `at`, the last of the kind `last`; at most f are left
 pub record Underway (bs : List ℕ) (p : code.Package) (at last k : ℕ) (rs ss : List ℕ) : Type 0 where
@@ -251,11 +254,6 @@ underway-more bs p at last k rs ss kind size r rs′ ss′ u z n t =
       records = omega (arith, u .records);
       few = few-more (u .q) kind (bodyOf (drop at bs)) at size (u .few) (omega (arith, length-take (recordSize (drop at bs) - 6) (drop 6 (drop at bs)), n .size-is));
     }
-
-ended-more : (k : ℕ) (q : Package) (bs : List ℕ) → 1 ≤ length bs → ended k q bs ≡ no (refusal wrongOrder k)
-unfolding ended
-ended-more k q [] h = absurd (omega arith)
-ended-more k q (b ∷ bs) h = refl
 
 ended-all : (k : ℕ) (q : Package) (bs : List ℕ) → length bs ≤ 0 → ended k q bs ≡ ok q
 unfolding ended

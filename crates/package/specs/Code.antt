@@ -7,7 +7,7 @@ use Rattle.words.specs.Counted.{counted, theLists}
 use Rattle.words.specs.Lent.{clearedFrom}
 use Rattle.words.specs.Outcome.{Res, ok, no, Demand, firstFault}
 use Rattle.package.specs.Bytes.{wordsOf}
-use Rattle.package.specs.Package.{Package, Refusal, recordSize, kindOf, putWords, Read, Written}
+use Rattle.package.specs.Package.{Package, Refusal, recordSize, kindOf, numbered, putWords, Read, Written}
 use Rattle.package.specs.declared.Found.{Found}
 use Rattle.package.specs.declared.Found.the-variants.{Record, Refused}
 use Rattle.package.specs.declared.Package as code
@@ -32,6 +32,12 @@ Holds s ws = length ws ≤ length s → take (length ws) s ≡ ws
 -- words are put from `at` on, if there is room for them
 abbrev pub Put : List ℕ → ℕ → List ℕ → List ℕ → Type 0
 Put s at ws s′ = at + length ws ≤ length s → take (at + length ws) s′ ≡ take at s ++ ws
+
+-- an old rule's item is put, its slot with the variable v: the next slot has w
+pub record PutItem (s : List ℕ) (at : ℕ) (item : List ℕ) (v w : ℕ) (s′ : List ℕ) : Type 0 where
+  pub put : Put s at (numbered v (wordsOf item)) s′
+  pub next : (ws : List ℕ) → numbered v (wordsOf item ++ ws) ≡ numbered v (wordsOf item) ++ numbered w ws
+  pub few : w ≤ suc v
 
 -- a refusal: all else is 0
 abbrev pub refusedIs : ℕ → ℕ → code.Package

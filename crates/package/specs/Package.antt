@@ -10,7 +10,7 @@ use Rattle.words.specs.Lent.{zeros, padded}
 use Rattle.words.specs.Counted.{counted, listsOf, counting}
 use Rattle.words.specs.Numbers.{accepted, noRoom, badRules, cutShort, unknownKind, wrongSize, wrongOrder}
 use Rattle.words.specs.Outcome.{Res, ok, no, pick, Demand, demand, firstFault}
-use Rattle.rules.specs.Rules.{sizeOf, restOf, rulesGood, reading}
+use Rattle.rules.specs.Rules.{itemWidth, sizeOf, restOf, rulesGood, reading}
 use Rattle.package.specs.Bytes.{little, bytesOf, wordsOf, wordBytes, bytewise}
 
 -- ---- the kinds of records
@@ -28,6 +28,10 @@ statement = 3
 
 abbrev pub theEnd : ℕ
 theEnd = 4
+
+-- a rule whose slots do not say their variables
+abbrev pub oldRule : ℕ
+oldRule = 5
 
 -- what a package says: both typecodes, the words of its rules, and its statements
 pub record Package : Type 0 where
@@ -60,21 +64,30 @@ unfoldable pub whole : List ℕ → Bool
 whole bs = not (ltb (length bs) 4) && not (ltb (lengthOf bs) 2) && leb (lengthOf bs) (length bs - 4)
 
 unfoldable pub known : ℕ → Bool
-known kind = not (ltb kind typecodes) && leb kind theEnd
+known kind = not (ltb kind typecodes) && leb kind oldRule
 
--- a rule's body: a result, the length of its body, and so many items
-unfoldable pub ruleSized : List ℕ → Bool
-ruleSized body = not (ltb (length body) 8) && eqb (length body) (4 * sizeOf (wordsOf body))
+-- the words of an old rule's item: its kind and its symbol
+abbrev pub oldWidth : ℕ
+oldWidth = 2
+
+-- a rule's body: a result, the length of its body, and so many items, each of `width` words
+unfoldable pub ruleSized : ℕ → List ℕ → Bool
+ruleSized width body = not (ltb (length body) 8) && eqb (length body) (4 * (2 + width * getD (wordsOf body) 1 0))
 
 -- a body has the size that its kind asks for
 unfoldable pub sized : ℕ → List ℕ → Bool
 sized kind body =
     pick (eqb kind typecodes) (eqb (length body) 8)
-    (pick (eqb kind oneRule) (ruleSized body) (pick (eqb kind statement) (eqb (length body % 4) 0) (eqb (length body) 0)))
+    (pick (eqb kind oneRule) (ruleSized itemWidth body)
+    (pick (eqb kind oldRule) (ruleSized oldWidth body) (pick (eqb kind statement) (eqb (length body % 4) 0) (eqb (length body) 0))))
+
+-- an old rule stands where a rule may
+unfoldable pub rank : ℕ → ℕ
+rank kind = pick (eqb kind oldRule) oneRule kind
 
 -- the typecodes stand first and nowhere else, and no rule comes after a statement; `last` is the kind of the record before, 0 if there is none
 unfoldable pub inOrder : ℕ → ℕ → Bool
-inOrder last kind = pick (eqb last 0) (eqb kind typecodes) (not (eqb kind typecodes) && leb last kind)
+inOrder last kind = pick (eqb last 0) (eqb kind typecodes) (not (eqb kind typecodes) && leb (rank last) (rank kind))
 
 -- what is tried at a record, in this order
 abbrev pub headDemands : List ℕ → List Demand
@@ -97,13 +110,25 @@ pub record Refusal : Type 0 where
 abbrev pub refusal : ℕ → ℕ → Refusal
 refusal n k = record { number = n; place = k }
 
+-- an old rule's items with their third words: its slots have the variables v, v + 1 and so on, its constants 0
+unfoldable pub numbered : ℕ → List ℕ → List ℕ
+numbered v [] = []
+numbered v (k ∷ []) = []
+numbered v (zero ∷ s ∷ ws) = zero ∷ s ∷ 0 ∷ numbered v ws
+numbered v (suc k ∷ s ∷ ws) = suc k ∷ s ∷ v ∷ numbered (suc v) ws
+
+-- an old rule as a rule: its slots have the variables 1, 2 and so on
+unfoldable pub renewed : List ℕ → List ℕ
+renewed ws = take 2 ws ++ numbered 1 (drop 2 ws)
+
 -- a record's words put to what was read before it
 unfoldable pub putWords : Package → ℕ → List ℕ → Package
 putWords p kind ws =
     pick (eqb kind typecodes) (record { provable = getD ws 0 0; logic = getD ws 1 0; rules = p .rules; statements = p .statements })
     (pick (eqb kind oneRule) (record { provable = p .provable; logic = p .logic; rules = p .rules ++ ws; statements = p .statements })
+    (pick (eqb kind oldRule) (record { provable = p .provable; logic = p .logic; rules = p .rules ++ renewed ws; statements = p .statements })
     (pick (eqb kind statement) (record { provable = p .provable; logic = p .logic; rules = p .rules; statements = p .statements ++ ws ∷ [] })
-    p))
+    p)))
 
 -- after the end record no byte may be left; k is the number that another record would have
 unfoldable pub ended : ℕ → Package → List ℕ → Res Refusal Package
@@ -247,5 +272,5 @@ writeGives provable logic rules statements room =
 
 -- what a definition that is unfolded here needs
 unfoldable pub packing : Unit {0}
-unfolding firstFault counting reading bytewise whole known ruleSized sized inOrder putWords ended afterHead scan says readAfter readBy readGives recordBytes ruleRecords statementRecords written short writeAfter writeLists writeBy writeGives
+unfolding firstFault counting reading bytewise whole known ruleSized sized rank inOrder numbered renewed putWords ended afterHead scan says readAfter readBy readGives recordBytes ruleRecords statementRecords written short writeAfter writeLists writeBy writeGives
 packing = tt

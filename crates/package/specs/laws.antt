@@ -1,6 +1,7 @@
 pub mod Examples
 pub mod Bytes
 pub mod Records
+pub mod Old
 pub mod Lengths
 pub mod Few
 pub mod Trips

@@ -3,8 +3,9 @@ use super::Found;
 ghost use mathlib.Core.Path.{_≡_};
 ghost use Prim.Native.Nat.{_≤_};
 ghost use lib.ListN.{length, take, drop};
+ghost use Rattle.rules.specs.Rules.{itemWidth};
 ghost use Rattle.package.specs.Bytes.{little};
-ghost use Rattle.package.specs.Package.{whole, known, ruleSized, sized, inOrder, headDemands, recordDemands};
+ghost use Rattle.package.specs.Package.{whole, known, ruleSized, sized, rank, inOrder, headDemands, recordDemands};
 ghost use Rattle.package.specs.Code.{foundIn};
 
 // The kinds of records.
@@ -15,6 +16,11 @@ pub const ONE_RULE: u32 = 2;
 pub const STATEMENT: u32 = 3;
 
 pub const THE_END: u32 = 4;
+
+pub const OLD_RULE: u32 = 5;
+
+// The words of an old rule's item.
+const OLD_WIDTH: usize = 2;
 
 // ---- numbers in bytes
 
@@ -57,17 +63,18 @@ fn known(kind: u32) -> bool
     if kind < TYPECODES {
         return false;
     }
-    kind <= THE_END
+    kind <= OLD_RULE
 }
 
-fn rule_sized(body: &[u8]) -> bool
-    ensures { λ r. ⌜ r ≡ ruleSized (now (body .entry)) ⌝ }
+fn rule_sized(body: &[u8], width: usize) -> bool
+    requires { ⌜ width ≤ itemWidth ⌝ }
+    ensures { λ r. ⌜ r ≡ ruleSized width (now (body .entry)) ⌝ }
 {
     if body.len() < 8 {
         return false;
     }
     let items = word_of(&body[4..]) as usize;
-    body.len() == 4 * (2 + rules::ITEM_WIDTH * items)
+    body.len() == 4 * (2 + width * items)
 }
 
 fn sized(kind: u32, body: &[u8]) -> bool
@@ -77,7 +84,10 @@ fn sized(kind: u32, body: &[u8]) -> bool
         return body.len() == 8;
     }
     if kind == ONE_RULE {
-        return rule_sized(body);
+        return rule_sized(body, rules::ITEM_WIDTH);
+    }
+    if kind == OLD_RULE {
+        return rule_sized(body, OLD_WIDTH);
     }
     if kind == STATEMENT {
         return body.len() % 4 == 0;
@@ -116,6 +126,16 @@ pub fn record_at(bytes: &[u8], at: usize) -> Found
     first_record(&bytes[at..])
 }
 
+// An old rule stands where a rule may.
+fn rank(kind: u32) -> u32
+    ensures { λ r. ⌜ r ≡ rank kind ⌝ }
+{
+    if kind == OLD_RULE {
+        return ONE_RULE;
+    }
+    kind
+}
+
 // Whether a record of this kind may come after one of the kind `last`, 0 if there is none.
 fn in_order(last: u32, kind: u32) -> bool
     ensures { λ r. ⌜ r ≡ inOrder last kind ⌝ }
@@ -126,7 +146,7 @@ fn in_order(last: u32, kind: u32) -> bool
     if kind == TYPECODES {
         return false;
     }
-    last <= kind
+    rank(last) <= rank(kind)
 }
 
 // The record at a place, refused with 23 also where its kind is out of order.

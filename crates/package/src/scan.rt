@@ -5,11 +5,11 @@ use super::record;
 ghost use mathlib.Core.Path.{_≡_};
 ghost use mathlib.Core.Bool.{true};
 ghost use mathlib.Core.List.{List, [], _∷_};
-ghost use Prim.Native.Nat.{ℕ, _≤_, _<_, _^_};
+ghost use Prim.Native.Nat.{ℕ, _+_, _≤_, _<_, _^_};
 ghost use lib.ListN.{length};
 ghost use Rattle.package.specs.Bytes.{wordsOf};
-ghost use Rattle.package.specs.Package.{typecodes, oneRule, statement, theEnd, sized, says};
-ghost use Rattle.package.specs.Code.{refusedIs, Put, Takes, Scanned, Small};
+ghost use Rattle.package.specs.Package.{typecodes, oneRule, oldRule, statement, theEnd, sized, renewed, says};
+ghost use Rattle.package.specs.Code.{refusedIs, Put, PutItem, Takes, Scanned, Small};
 
 // A refusal, or with the number 0 a package of nothing.
 pub fn refused(number: u32, place: usize) -> Package
@@ -54,6 +54,39 @@ fn put_words(to: &mut [u32], at: usize, body: &[u8])
     }
 }
 
+// An old rule's item, and its third word: v for a slot. The variable of the next slot.
+fn put_item(to: &mut [u32], at: usize, item: &[u8], v: u32) -> u32
+    requires { ⌜ (length (now item) ≡ 8) × (at < 2 ^ 63) × (v < 2 ^ 31) ⌝ }
+    ensures { λ r. ⌜ PutItem (now (to .entry)) at (now (item .entry)) v r (now (to .exit)) ⌝ }
+{
+    put_words(to, at, item);
+    if record::word_of(item) == 0 {
+        put_word(to, at + 2, 0);
+        return v;
+    }
+    put_word(to, at + 2, v);
+    v + 1
+}
+
+// The words of an old rule from `at` on, if there is room for all of them: where they end.
+fn put_old_rule(to: &mut [u32], at: usize, body: &[u8]) -> usize
+    requires { ⌜ (sized oldRule (now body) ≡ true) × (length (now body) < 2 ^ 32) × (at < 2 ^ 62) ⌝ }
+    ensures { λ r. ⌜ Put (now (to .entry)) at (renewed (wordsOf (now (body .entry)))) (now (to .exit))
+        × (r ≡ at + length (renewed (wordsOf (now (body .entry))))) ⌝ }
+{
+    put_words(to, at, &body[0..8]);
+    let mut next = at + 2;
+    let mut v: u32 = 1;
+    let mut i = 8;
+    while i < body.len() {
+        let end = i + 8;
+        v = put_item(to, next, &body[i..end], v);
+        next += rules::ITEM_WIDTH;
+        i = end;
+    }
+    next
+}
+
 fn take_typecodes(p: Package, body: &[u8]) -> Package
     requires { ⌜ length (now body) ≡ 8 ⌝ }
     ensures { λ r. ⌜ ((rs ss : List ℕ) → Takes p typecodes (now (body .entry)) r rs ss rs ss) ⌝ }
@@ -81,6 +114,23 @@ fn take_rule(p: Package, body: &[u8], rules: &mut [u32]) -> Package
         provable: p.provable,
         logic: p.logic,
         rules: n + body.len() / 4,
+        statements: p.statements,
+        words: p.words,
+    }
+}
+
+// An old rule's slots get their variables.
+fn take_old_rule(p: Package, body: &[u8], rules: &mut [u32]) -> Package
+    requires { ⌜ Small p × (length (now body) < 2 ^ 32) × (sized oldRule (now body) ≡ true) ⌝ }
+    ensures { λ r. ⌜ ((ss : List ℕ) → Takes p oldRule (now (body .entry)) r (now (rules .entry)) ss (now (rules .exit)) ss) ⌝ }
+{
+    let end = put_old_rule(rules, p.rules, body);
+    Package {
+        number: words::ACCEPTED,
+        place: 0,
+        provable: p.provable,
+        logic: p.logic,
+        rules: end,
         statements: p.statements,
         words: p.words,
     }
@@ -122,6 +172,9 @@ fn take_record(
     }
     if kind == record::ONE_RULE {
         return take_rule(p, body, rules);
+    }
+    if kind == record::OLD_RULE {
+        return take_old_rule(p, body, rules);
     }
     if kind == record::STATEMENT {
         return take_statement(p, body, statements);

@@ -142,7 +142,8 @@ fn show_counts(p: package::Package) {
     text::say(b"\n");
 }
 
-// Four bytes are needed for each word, so the rules and the statements of a package that this program takes fit.
+// Four bytes are needed for each word of a statement, so the statements of a package that this program takes fit. Rules in the old form
+// may not: they have more words than their records, and 7 says so.
 pub fn package(bytes: &[u8]) {
     let mut rules = [0u32; text::MOST];
     let mut all = [0u32; text::MOST];

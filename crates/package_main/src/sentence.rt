@@ -5,7 +5,7 @@ fn of_package(number: u32) {
         words::CUT_SHORT => text::say(
             b"the length of this record is cut short, under 2 or past the end",
         ),
-        words::UNKNOWN_KIND => text::say(b"this record has a kind that is none of 1 to 4"),
+        words::UNKNOWN_KIND => text::say(b"this record has a kind that is none of 1 to 5"),
         words::WRONG_SIZE => text::say(b"the body of this record has the wrong size for its kind"),
         words::WRONG_ORDER => text::say(b"a record is missing here, or stands in the wrong place"),
         _ => text::say(b"this number has no sentence"),

@@ -1,5 +1,6 @@
 -- Rules, as a list of words says them, and when the words are bad (10).
--- A rule's words: its result typecode, how many items its body has, and the items, each by its kind, 0 or 1, and its constant or typecode.
+-- A rule's words: its result typecode, how many items its body has, and the items, each by three words: its kind, 0 or 1, its constant or
+-- typecode, and for a slot the variable that it stands for, which is 0 for a constant.
 use Prim.Native.Nat.{ℕ, zero, suc, _+_, _*_, _-_}
 use mathlib.Core.Bool.{Bool, true, false, not, _&&_}
 use mathlib.Core.List.{List, [], _∷_}
@@ -19,9 +20,9 @@ pub record Rule : Type 0 where
 
 -- ---- what the words say
 
--- the words of an item: its kind and its symbol
+-- the words of an item: its kind, its symbol and its variable
 abbrev pub itemWidth : ℕ
-itemWidth = 2
+itemWidth = 3
 
 -- the words of the rule that stands first, those of its body, and what follows it
 abbrev pub sizeOf : List ℕ → ℕ
@@ -37,10 +38,20 @@ abbrev pub itemOf : ℕ → ℕ → Item
 itemOf zero s = con s
 itemOf (suc k) s = slot s
 
+-- the items of a body: variables are no part of them, since nothing but the rule check asks for them
 unfoldable pub itemsOf : List ℕ → List Item
 itemsOf [] = []
 itemsOf (k ∷ []) = []
-itemsOf (k ∷ s ∷ ws) = itemOf k s ∷ itemsOf ws
+itemsOf (k ∷ s ∷ []) = []
+itemsOf (k ∷ s ∷ v ∷ ws) = itemOf k s ∷ itemsOf ws
+
+-- the variables of a body's slots
+unfoldable pub variables : List ℕ → List ℕ
+variables [] = []
+variables (k ∷ []) = []
+variables (k ∷ s ∷ []) = []
+variables (zero ∷ s ∷ v ∷ ws) = variables ws
+variables (suc k ∷ s ∷ v ∷ ws) = v ∷ variables ws
 
 abbrev pub ruleOf : List ℕ → Rule
 ruleOf ws = record { result = getD ws 0 0; body = itemsOf (bodyWords ws) }
@@ -74,15 +85,35 @@ source (slot u ∷ i ∷ b) = none
 
 -- ---- when they are bad
 
--- a symbol or a typecode: 1 to 65,535
+-- a symbol, a typecode or a variable: 1 to 65,535
 unfoldable pub symbol : ℕ → Bool
 symbol x = not (ltb x 1) && leb x mostSymbol
 
--- a body's words: pairs, each of a kind that there is and a symbol
+-- the third word of an item of kind k: a slot's variable, and 0 for a constant
+unfoldable pub third : ℕ → ℕ → Bool
+third zero v = eqb v 0
+third (suc k) v = symbol v
+
+-- a body's words: threes, each of a kind that there is, a symbol, and a variable where there is one
 unfoldable pub goodItems : List ℕ → Bool
 goodItems [] = true
 goodItems (k ∷ []) = false
-goodItems (k ∷ s ∷ ws) = not (ltb 1 k) && symbol s && goodItems ws
+goodItems (k ∷ s ∷ []) = false
+goodItems (k ∷ s ∷ v ∷ ws) = not (ltb 1 k) && symbol s && third k v && goodItems ws
+
+-- the variable is none of these
+unfoldable pub absent : ℕ → List ℕ → Bool
+absent v [] = true
+absent v (u ∷ us) = not (eqb u v) && absent v us
+
+-- no variable is named twice
+unfoldable pub distinct : List ℕ → Bool
+distinct [] = true
+distinct (v ∷ vs) = absent v vs && distinct vs
+
+-- good items, and no variable in two slots
+unfoldable pub goodBody : List ℕ → Bool
+goodBody ws = goodItems ws && distinct (variables ws)
 
 -- a result other than the provable typecode p, and 1 to 32 items
 unfoldable pub goodHead : ℕ → ℕ → ℕ → Bool
@@ -95,7 +126,7 @@ equalEnds ws = eqb (getD ws 1 0) 1 && eqb (getD ws 2 0) 1 && eqb (getD ws 3 0) (
 -- the words begin with a good rule
 unfoldable pub goodRule : ℕ → List ℕ → Bool
 goodRule p ws =
-    not (ltb (length ws) 2) && goodHead p (getD ws 0 0) (getD ws 1 0) && not (ltb (length ws) (sizeOf ws)) && goodItems (bodyWords ws)
+    not (ltb (length ws) 2) && goodHead p (getD ws 0 0) (getD ws 1 0) && not (ltb (length ws) (sizeOf ws)) && goodBody (bodyWords ws)
     && not (equalEnds ws)
 
 -- good rules, at most k of them, and no word left over
@@ -132,5 +163,5 @@ cut ws s = take (s .length) (drop (s .start) ws)
 
 -- what a definition that is unfolded here needs
 unfoldable pub reading : Unit {0}
-unfolding itemsOf rulesOf ruleAt slots source symbol goodItems goodHead equalEnds goodRule goodRules rulesGood stretchFrom
+unfolding itemsOf variables rulesOf ruleAt slots source symbol third goodItems absent distinct goodBody goodHead equalEnds goodRule goodRules rulesGood stretchFrom
 reading = tt

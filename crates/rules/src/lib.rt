@@ -5,11 +5,11 @@ ghost use mathlib.Core.Option.{some};
 ghost use Prim.Native.Nat.{_+_, _*_, _≤_, _<_};
 ghost use lib.ListN.{length, getElem?};
 ghost use Rattle.words.specs.Limits.{mostItems, mostRules};
-ghost use Rattle.rules.specs.Rules.{itemWidth, sizeOf, bodyWords, itemsOf, theRules, ruleOf, slots, source, symbol, goodItems, goodHead, equalEnds, goodRules, rulesGood, cut};
+ghost use Rattle.rules.specs.Rules.{itemWidth, sizeOf, bodyWords, itemsOf, variables, theRules, ruleOf, slots, source, symbol, third, goodItems, absent, distinct, goodBody, goodHead, equalEnds, goodRules, rulesGood, cut};
 ghost use Rattle.rules.specs.Code.{firstOf, aRule, someRules, Found, itemIs, sourceOf, stretchOf, bodyIn, PartOf};
 
-// The words of an item: its kind and its symbol.
-pub const ITEM_WIDTH: usize = 2;
+// The words of an item: its kind, its symbol and its variable.
+pub const ITEM_WIDTH: usize = 3;
 
 // The two typecodes that come with the rules.
 pub struct Codes {
@@ -50,7 +50,7 @@ pub struct Stretch {
 
 // ---- the rule check
 
-// Whether a word is a symbol or a typecode.
+// Whether a word is a symbol, a typecode or a variable.
 pub fn symbol(x: u32) -> bool
     ensures { λ r. ⌜ r ≡ symbol x ⌝ }
 {
@@ -60,7 +60,17 @@ pub fn symbol(x: u32) -> bool
     x <= words::MOST_SYMBOL
 }
 
-// Whether a body is whole items, each of a kind that there is and with a symbol.
+// Whether an item of this kind may have this third word: a slot has a variable, a constant has none.
+fn third(kind: u32, variable: u32) -> bool
+    ensures { λ r. ⌜ r ≡ third kind variable ⌝ }
+{
+    if kind == 0 {
+        return variable == 0;
+    }
+    symbol(variable)
+}
+
+// Whether a body is whole items, each of a kind that there is, with a symbol and with a variable if it is a slot.
 fn good_items(body: &[u32]) -> bool
     ensures { λ r. ⌜ r ≡ goodItems (now (body .entry)) ⌝ }
 {
@@ -69,15 +79,62 @@ fn good_items(body: &[u32]) -> bool
         if body.len() - i < ITEM_WIDTH {
             return false;
         }
-        if 1 < body[i] {
+        let kind = body[i];
+        if 1 < kind {
             return false;
         }
         if !symbol(body[i + 1]) {
             return false;
         }
+        if !third(kind, body[i + 2]) {
+            return false;
+        }
         i += ITEM_WIDTH;
     }
     true
+}
+
+// Whether no slot among these items has this variable. A constant's third word is 0, so it is none.
+fn absent(items: &[u32], variable: u32) -> bool
+    requires { ⌜ (goodItems (now items) ≡ true) × (symbol variable ≡ true) ⌝ }
+    ensures { λ r. ⌜ r ≡ absent variable (variables (now (items .entry))) ⌝ }
+{
+    let mut i = 0;
+    while i < items.len() {
+        if items[i + 2] == variable {
+            return false;
+        }
+        i += ITEM_WIDTH;
+    }
+    true
+}
+
+// Whether no variable stands in two slots.
+fn distinct(items: &[u32]) -> bool
+    requires { ⌜ goodItems (now items) ≡ true ⌝ }
+    ensures { λ r. ⌜ r ≡ distinct (variables (now (items .entry))) ⌝ }
+{
+    let mut i = 0;
+    while i < items.len() {
+        let next = i + ITEM_WIDTH;
+        if items[i] == 1 {
+            if !absent(&items[next..], items[i + 2]) {
+                return false;
+            }
+        }
+        i = next;
+    }
+    true
+}
+
+// Whether a body's items are good and no two slots have one variable.
+fn good_body(body: &[u32]) -> bool
+    ensures { λ r. ⌜ r ≡ goodBody (now (body .entry)) ⌝ }
+{
+    if !good_items(body) {
+        return false;
+    }
+    distinct(body)
 }
 
 // Whether a rule may have this result and so many items.
@@ -132,7 +189,7 @@ fn good_rule(s: &[u32], provable: words::SymbolNo) -> First
     if s.len() < size {
         return First::Bad;
     }
-    if !good_items(&s[2..size]) {
+    if !good_body(&s[2..size]) {
         return First::Bad;
     }
     if equal_ends(s) {

@@ -10,9 +10,9 @@ pub const ANSWER: usize = 10;
 
 pub const RULES: usize = 16;
 
-pub const NODES: usize = 8220;
+pub const NODES: usize = 10270;
 
-pub const EDGES: usize = 8350;
+pub const EDGES: usize = 10400;
 
 pub const ASKED: usize = 12200;
 

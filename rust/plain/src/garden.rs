@@ -30,6 +30,7 @@ impl Command {
     }
 }
 
+/// Two words each: in a path a slot has no variable.
 fn items(count: u32, words: &[u32]) -> Option<(Vec<Item>, &[u32])> {
     let width = 2 * count as usize;
     let pairs = words.get(..width)?.chunks_exact(2);

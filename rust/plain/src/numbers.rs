@@ -1,6 +1,7 @@
 //! The kinds of numbers, the limits, and the refusals with their numbers and places.
 
 pub const SYMBOL_LIMIT: u32 = 65_535;
+pub const VARIABLE_LIMIT: u32 = 65_535;
 pub const RULE_LIMIT: usize = 2_048;
 pub const ITEM_LIMIT: u32 = 32;
 pub const NODE_LIMIT: usize = 8_192;

@@ -1,12 +1,14 @@
 //! Rule packages: typecodes, rules and statements as one file of records.
 
 use crate::numbers::Refusal;
-use crate::rules::Rules;
+use crate::rules::{Rules, ITEM};
 
 /// Bytes of a word, which a record's length is too.
 const WORD: usize = 4;
 /// Bytes of a kind; a record's length counts them.
 const KIND: usize = 2;
+/// Words of an item in a rule of the old form: no variable.
+const OLD_ITEM: usize = 2;
 
 #[derive(Clone, Copy, PartialEq, Eq)]
 enum Kind {
@@ -14,18 +16,20 @@ enum Kind {
     Rule = 2,
     Statement = 3,
     End = 4,
+    OldRule = 5,
 }
 
 impl Kind {
     fn read(bytes: [u8; KIND]) -> Option<Kind> {
-        let kinds = [Kind::Typecodes, Kind::Rule, Kind::Statement, Kind::End];
+        let kinds = [Kind::Typecodes, Kind::Rule, Kind::Statement, Kind::End, Kind::OldRule];
         kinds.into_iter().find(|&kind| (kind as u16).to_le_bytes() == bytes)
     }
 
     fn has_size_of(self, body: &[u8]) -> bool {
         match self {
             Kind::Typecodes => body.len() == 2 * WORD,
-            Kind::Rule => rule_size(body) == Some(body.len() as u64),
+            Kind::Rule => rule_size(body, ITEM) == Some(body.len() as u64),
+            Kind::OldRule => rule_size(body, OLD_ITEM) == Some(body.len() as u64),
             Kind::Statement => body.chunks_exact(WORD).remainder().is_empty(),
             Kind::End => body.is_empty(),
         }
@@ -35,16 +39,31 @@ impl Kind {
     fn may_follow(self, last: Option<Kind>) -> bool {
         match (last, self) {
             (None, kind) => kind == Kind::Typecodes,
-            (Some(_), Kind::Typecodes) | (Some(Kind::Statement), Kind::Rule) => false,
+            (Some(_), Kind::Typecodes) | (Some(Kind::Statement), Kind::Rule | Kind::OldRule) => false,
             _ => true,
         }
     }
 }
 
-/// How many bytes a rule has that begins with these: its second word says so, whatever it says. Nothing if there is no such word.
-fn rule_size(body: &[u8]) -> Option<u64> {
+/// How many bytes a rule has that begins with these, with so many words for an item: its second word says so, whatever it says. Nothing if
+/// there is no such word.
+fn rule_size(body: &[u8], item: usize) -> Option<u64> {
     let items = words(body).nth(1)?;
-    Some(WORD as u64 * (2 + 2 * u64::from(items)))
+    Some(WORD as u64 * (2 + item as u64 * u64::from(items)))
+}
+
+/// The words of a rule of the old form, with the variables 1, 2, 3 and so on in its slots.
+fn with_variables(body: &[u8]) -> Vec<u32> {
+    let (head, items) = body.split_at(2 * WORD);
+    let mut rule: Vec<u32> = words(head).collect();
+    let mut slots = 0;
+    for item in items.chunks_exact(OLD_ITEM * WORD) {
+        let slot = words(item).next() == Some(1);
+        slots += slot as u32;
+        rule.extend(words(item));
+        rule.push(if slot { slots } else { 0 });
+    }
+    rule
 }
 
 fn words(bytes: &[u8]) -> impl Iterator<Item = u32> + '_ {
@@ -105,6 +124,7 @@ impl Contents {
         match kind {
             Kind::Typecodes => (self.provable, self.logic) = words.next().zip(words.next()).unwrap_or_default(),
             Kind::Rule => self.rules.extend(words),
+            Kind::OldRule => self.rules.extend(with_variables(body)),
             Kind::Statement => {
                 self.count += 1;
                 self.statements.push((body.len() / WORD) as u32);
@@ -127,7 +147,7 @@ pub fn counted(words: &[u32]) -> Option<Vec<&[u32]>> {
     Some(statements)
 }
 
-/// The bytes of a package; 22 if the statements aren't whole, or one has no length that a record can tell.
+/// The bytes of a package, with no rule of the old form; 22 if the statements aren't whole, or one has no length that a record can tell.
 pub fn packed(rules: &Rules, rule_words: &[u32], statements: &[u32]) -> Result<Vec<u8>, Refusal> {
     let typecodes = [rules.typecodes.provable.word(), rules.typecodes.logic.word()];
     let statements = counted(statements).ok_or(Refusal::WrongSize(0))?;

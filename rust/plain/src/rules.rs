@@ -1,6 +1,11 @@
 //! Rule slice access and the rule check.
 
-use crate::numbers::{RuleNo, Symbol, ITEM_LIMIT, RULE_LIMIT};
+use std::collections::HashSet;
+
+use crate::numbers::{RuleNo, Symbol, ITEM_LIMIT, RULE_LIMIT, VARIABLE_LIMIT};
+
+/// Words of an item in a rule: its kind, its symbol, and a slot's variable.
+pub const ITEM: usize = 3;
 
 /// The two typecodes that come with the rules at every call.
 #[derive(Clone, Copy, Debug, PartialEq, Eq)]
@@ -24,7 +29,7 @@ impl Typecodes {
     }
 }
 
-/// One item of a body, and the key of an edge at its node.
+/// One item of a body, and the key of an edge at its node. A slot's variable is looked at when rules are read, and matters nowhere else.
 #[derive(Clone, Copy, Debug, PartialEq, Eq, Hash)]
 pub enum Item {
     Constant(Symbol),
@@ -49,6 +54,20 @@ impl Item {
     }
 }
 
+/// The items of a body; nothing if one is bad, or if two slots have one variable.
+fn items(words: &[u32]) -> Option<Vec<Item>> {
+    let mut named = HashSet::new();
+    let item = |words: &[u32]| {
+        let (item, variable) = (Item::read(words[0], words[1])?, words[2]);
+        let good = match item {
+            Item::Constant(_) => variable == 0,
+            Item::Slot(_) => (1..=VARIABLE_LIMIT).contains(&variable) && named.insert(variable),
+        };
+        good.then_some(item)
+    };
+    words.chunks_exact(ITEM).map(item).collect()
+}
+
 #[derive(Clone, Debug, PartialEq, Eq)]
 pub struct Rule {
     pub result: Symbol,
@@ -66,8 +85,7 @@ impl Rule {
         if !(1..=ITEM_LIMIT).contains(&length) {
             return None;
         }
-        let pairs = rest.get(..2 * length as usize)?.chunks_exact(2);
-        let body: Vec<Item> = pairs.map(|pair| Item::read(pair[0], pair[1])).collect::<Option<_>>()?;
+        let body = items(rest.get(..ITEM * length as usize)?)?;
         Some(Rule {
             result: Symbol::read(result)?,
             slots: body.iter().filter(|item| matches!(item, Item::Slot(_))).count(),
@@ -78,7 +96,7 @@ impl Rule {
 
     /// How many words the body takes.
     pub fn width(&self) -> usize {
-        2 * self.body.len()
+        ITEM * self.body.len()
     }
 
     /// The typecode that a conversion converts from; nothing for other rules.

@@ -14,7 +14,9 @@ fn bytes(text: &str) -> Vec<u8> {
 /// The typecodes 1 and 2.
 const H: &str = "0a000000 0100 01000000 02000000";
 /// Rule 2 [c10].
-const R: &str = "12000000 0200 02000000 01000000 00000000 0a000000";
+const R: &str = "16000000 0200 02000000 01000000 00000000 0a000000 00000000";
+/// The same in the old form.
+const O: &str = "12000000 0500 02000000 01000000 00000000 0a000000";
 /// The statement 1 10.
 const P: &str = "0a000000 0300 01000000 0a000000";
 const E: &str = "02000000 0400";
@@ -60,18 +62,18 @@ fn answer_of(package: &[u8]) -> (u32, usize) {
 
 #[test]
 fn what_comes_back() {
-    let read = read_in(&bytes(&[H, R, P, E].concat()), 4, 3);
+    let read = read_in(&bytes(&[H, R, P, E].concat()), 5, 3);
     let whole = Package {
         number: 0,
         place: 0,
         provable: 1,
         logic: 2,
-        rules: 4,
+        rules: 5,
         statements: 1,
         words: 3,
     };
     assert_eq!(read.answer, whole);
-    assert_eq!((read.rules, read.statements), (vec![2, 1, 0, 10], vec![2, 1, 10]));
+    assert_eq!((read.rules, read.statements), (vec![2, 1, 0, 10, 0], vec![2, 1, 10]));
 }
 
 #[test]
@@ -90,7 +92,7 @@ fn no_byte_before_the_end_or_one_after_it() {
     assert_eq!(answer(&[H, R, P]), (23, 3));
     assert_eq!(answer(&[H, E]), (0, 0));
     // Whatever comes after the end, it is never looked at.
-    for more in ["00", "0000", "01000000 00", "02000000 0500", "03000000 0300 00", E, P, H] {
+    for more in ["00", "0000", "01000000 00", "02000000 0600", "03000000 0300 00", E, P, H] {
         assert_eq!(answer(&[H, E, more]), (23, 2), "{more}");
     }
 }
@@ -118,7 +120,7 @@ fn lengths() {
 
 #[test]
 fn kinds() {
-    for kind in ["0000", "0500", "ffff", "0101", "0102", "0401", "0001"] {
+    for kind in ["0000", "0600", "ffff", "0101", "0102", "0401", "0501", "0001"] {
         assert_eq!(answer(&[H, "02000000", kind]), (21, 1), "{kind}");
         assert_eq!(answer(&["03000000", kind, "00"]), (21, 0), "{kind}");
     }
@@ -135,8 +137,9 @@ fn sizes() {
         assert_eq!(answer(&[H, &one("0100", bytes)]), (22, 1));
     }
     // A body of zeros says that it has no items.
-    for bytes in [0, 4, 7, 9, 12, 16] {
+    for bytes in [0, 4, 7, 9, 12, 16, 20] {
         assert_eq!(answer(&[H, &one("0200", bytes)]), (22, 1), "{bytes}");
+        assert_eq!(answer(&[H, &one("0500", bytes)]), (22, 1), "{bytes}");
     }
     for bytes in [1, 2, 3, 5, 6, 7] {
         assert_eq!(answer(&[H, &one("0300", bytes)]), (22, 1), "{bytes}");
@@ -147,19 +150,96 @@ fn sizes() {
 
 #[test]
 fn sizes_do_not_wrap() {
-    assert_eq!(answer(&[H, "12000000 0200 02000000 01000020 00000000 0a000000", E]), (22, 1));
-    for items in [0x2000_0001, 0x4000_0001, 0x8000_0001, 0xffff_ffff, 0x7fff_ffff, 0, 2] {
-        let bad = [bytes(H), record(2, &[2, items, 0, 10]), bytes(E)].concat();
-        assert_eq!(answer_of(&bad), (22, 1), "{items}");
+    assert_eq!(
+        answer(&[H, "16000000 0200 02000000 01000040 00000000 0a000000 00000000", E]),
+        (22, 1)
+    );
+    assert_eq!(answer(&[H, "12000000 0500 02000000 01000020 00000000 0a000000", E]), (22, 1));
+    for items in [
+        0x2000_0001,
+        0x4000_0001,
+        0x8000_0001,
+        0xaaaa_aaab,
+        0x5555_5556,
+        0xffff_ffff,
+        0x7fff_ffff,
+        0,
+        2,
+    ] {
+        for (kind, body) in [(2, &[2, items, 0, 10, 0][..]), (5, &[2, items, 0, 10])] {
+            let bad = [bytes(H), record(kind, body), bytes(E)].concat();
+            assert_eq!(answer_of(&bad), (22, 1), "{kind}: {items}");
+        }
     }
 }
 
 #[test]
+fn one_form_under_the_kind_of_the_other() {
+    let old = [bytes(H), record(2, &[2, 1, 0, 10]), bytes(E)].concat();
+    let new = [bytes(H), record(5, &[2, 1, 0, 10, 0]), bytes(E)].concat();
+    assert_eq!([old, new].map(|package| answer_of(&package)), [(22, 1), (22, 1)]);
+}
+
+#[test]
+fn rules_of_the_old_form() {
+    let rules = |words: &[u32]| read_in(&[bytes(H), record(5, words), bytes(E)].concat(), 100, 0).rules;
+    // Slots are counted, and not items.
+    assert_eq!(rules(&[2, 2, 0, 10, 1, 2]), [2, 2, 0, 10, 0, 1, 2, 1]);
+    assert_eq!(rules(&[2, 3, 1, 3, 0, 7, 1, 3]), [2, 3, 1, 3, 1, 0, 7, 0, 1, 3, 2]);
+    assert_eq!(rules(&[3, 1, 1, 2]), [3, 1, 1, 2, 1]);
+    let longest = rules(&[vec![2, 32], [1, 3].repeat(32)].concat());
+    assert!(longest[2..].chunks_exact(3).map(|item| item[2]).eq(1..=32));
+}
+
+#[test]
+fn both_forms_in_one_package() {
+    let new = record(2, &[2, 2, 0, 5, 0, 1, 2, 9]);
+    let old = |constant| record(5, &[2, 2, 0, constant, 1, 2]);
+    let package = [bytes(H), old(10), new, old(11), bytes(O), bytes(P), bytes(E)].concat();
+    let three = [[2, 2, 0, 10, 0, 1, 2, 1], [2, 2, 0, 5, 0, 1, 2, 9], [2, 2, 0, 11, 0, 1, 2, 1]];
+    // The last rule begins the first, which is for a build to say.
+    let rules = [three.concat(), vec![2, 1, 0, 10, 0]].concat();
+    let read = read_in(&package, rules.len(), 3);
+    assert_eq!((read.answer.number, &read.rules), (0, &rules));
+    assert_eq!(read_in(&package, rules.len() - 1, 3).answer.number, 7);
+    // What is written has the new form only, and reads the same.
+    let written = write_in((1, 2), &read.rules, &read.statements, 1_000).bytes;
+    assert_eq!(written[14..][..6], [34, 0, 0, 0, 2, 0]);
+    assert_ne!(written, package);
+    let again = read_in(&written, rules.len(), 3);
+    assert_eq!(
+        (again.answer, again.rules, again.statements),
+        (read.answer, read.rules, read.statements)
+    );
+}
+
+#[test]
+fn old_rules_need_the_room_of_new_ones() {
+    let number = |words| read_in(&bytes(&[H, O, E].concat()), words, 0).answer.number;
+    assert_eq!([4, 5].map(number), [7, 0]);
+}
+
+#[test]
+fn variables_are_judged_with_the_rules() {
+    let number = |words: &[u32]| answer_of(&[bytes(H), record(2, words), bytes(E)].concat());
+    assert_eq!(number(&[2, 2, 1, 3, 7, 1, 4, 7]), (10, 0));
+    assert_eq!(number(&[2, 2, 1, 3, 7, 1, 4, 8]), (0, 0));
+    assert_eq!(number(&[2, 1, 0, 10, 1]), (10, 0));
+    assert_eq!([0, 65_536].map(|variable| number(&[2, 1, 1, 3, variable])), [(10, 0), (10, 0)]);
+    // An old rule may mean one variable twice, and nobody can tell.
+    assert_eq!(answer_of(&[bytes(H), record(5, &[2, 2, 1, 3, 1, 3]), bytes(E)].concat()), (0, 0));
+    // A bad kind of item stays bad.
+    assert_eq!(answer_of(&[bytes(H), record(5, &[2, 1, 2, 10]), bytes(E)].concat()), (10, 0));
+}
+
+#[test]
 fn too_many_or_no_items_are_a_bad_rule() {
-    assert_eq!(answer(&[H, "0a000000 0200 02000000 00000000", E]), (10, 0));
-    let long = |items: u32| [vec![2, items], [0, 10].repeat(items as usize)].concat();
-    let package = |items| [bytes(H), record(2, &long(items)), bytes(E)].concat();
-    assert_eq!([32, 33, 40].map(|items| answer_of(&package(items))), [(0, 0), (10, 0), (10, 0)]);
+    for (kind, item) in [(2, &[0, 10, 0][..]), (5, &[0, 10])] {
+        assert_eq!(answer_of(&[bytes(H), record(kind, &[2, 0]), bytes(E)].concat()), (10, 0));
+        let long = |items: u32| [vec![2, items], item.repeat(items as usize)].concat();
+        let package = |items| [bytes(H), record(kind, &long(items)), bytes(E)].concat();
+        assert_eq!([32, 33, 40].map(|items| answer_of(&package(items))), [(0, 0), (10, 0), (10, 0)]);
+    }
 }
 
 #[test]
@@ -170,7 +250,10 @@ fn order_of_kinds() {
     assert_eq!(answer(&[H, H, E]), (23, 1));
     assert_eq!(answer(&[H, R, P, H, E]), (23, 3));
     assert_eq!(answer(&[H, P, R, E]), (23, 2));
+    assert_eq!(answer(&[H, P, O, E]), (23, 2));
+    assert_eq!(answer(&[O, H, E]), (23, 0));
     assert_eq!(answer(&[H, R, R, P, P, E]), (0, 0));
+    assert_eq!(answer(&[H, R, O, R, P, E]), (0, 0));
     // The size is asked before the order.
     assert_eq!(answer(&[H, "06000000 0100 01000000", E]), (22, 1));
     assert_eq!(answer(&[H, P, "06000000 0200 01000000", E]), (22, 2));
@@ -185,11 +268,11 @@ fn room_before_bad_rules() {
         assert_eq!(place, 0);
         number
     };
-    assert_eq!(number(&[same, R, E], 3, 0), 7);
-    assert_eq!(number(&[same, R, E], 4, 0), 10);
-    assert_eq!(number(&[H, R, P, E], 4, 2), 7);
-    assert_eq!(number(&[H, R, P, E], 3, 3), 7);
-    assert_eq!(number(&[H, R, P, E], 4, 3), 0);
+    assert_eq!(number(&[same, R, E], 4, 0), 7);
+    assert_eq!(number(&[same, R, E], 5, 0), 10);
+    assert_eq!(number(&[H, R, P, E], 5, 2), 7);
+    assert_eq!(number(&[H, R, P, E], 4, 3), 7);
+    assert_eq!(number(&[H, R, P, E], 5, 3), 0);
     // A fault of a record comes before either.
     assert_eq!(answer(&[same, R, P]), (23, 3));
 }
@@ -204,10 +287,10 @@ fn typecodes_are_judged_with_the_rules() {
 
 #[test]
 fn room_for_more_rules_than_there_may_be() {
-    let rules: Vec<u8> = (1..=2_049).flat_map(|symbol| record(2, &[2, 1, 0, symbol])).collect();
+    let rules: Vec<u8> = (1..=2_049).flat_map(|symbol| record(2, &[2, 1, 0, symbol, 0])).collect();
     let package = [bytes(H), rules, bytes(E)].concat();
     let number = |words| read_in(&package, words, 0).answer.number;
-    assert_eq!([4 * 2_049 - 1, 4 * 2_049].map(number), [7, 10]);
+    assert_eq!([5 * 2_049 - 1, 5 * 2_049].map(number), [7, 10]);
 }
 
 struct Wrote {
@@ -227,17 +310,17 @@ fn write_in(typecodes: (u32, u32), rules: &[u32], statements: &[u32], room: usiz
 fn bytes_that_are_written() {
     let write = |rules: &[u32], statements: &[u32]| write_in((1, 2), rules, statements, 200).bytes;
     assert_eq!(write(&[], &[]), bytes(&[H, E].concat()));
-    assert_eq!(write(&[2, 1, 0, 10], &[2, 1, 10]), bytes(&[H, R, P, E].concat()));
+    assert_eq!(write(&[2, 1, 0, 10, 0], &[2, 1, 10]), bytes(&[H, R, P, E].concat()));
     assert_eq!(write(&[], &[0]), bytes(&[H, "02000000 0300", E].concat()));
 }
 
 #[test]
 fn refusals_of_the_writer() {
     let number = |rules: &[u32], statements: &[u32], room| write_in((1, 2), rules, statements, room).answer.number;
-    let good = [2, 1, 0, 10];
+    let good = [2, 1, 0, 10, 0];
     for words in [&[1][..], &[1 << 30], &[u32::MAX], &[2, 1, 10, 1], &[3, 1, 10]] {
         assert_eq!(number(&good, words, 0), 22, "{words:?}");
-        assert_eq!(number(&good[..3], words, 1_000), 10, "{words:?}");
+        assert_eq!(number(&good[..4], words, 1_000), 10, "{words:?}");
     }
     let whole = bytes(&[H, R, P, E].concat()).len();
     assert_eq!(
@@ -263,7 +346,7 @@ fn both_ways_round() {
 #[test]
 fn every_cut_is_refused() {
     let package = bytes(&[H, R, P, E].concat());
-    let starts = [0, 14, 36, 50, 56];
+    let starts = [0, 14, 40, 54, 60];
     for end in 0..package.len() {
         let record = starts.iter().filter(|&&start| start <= end).count() - 1;
         let number = if starts.contains(&end) { 23 } else { 20 };

@@ -13,10 +13,13 @@ fn body(rules: &[u32], rule: u32) -> (u32, u32) {
 #[test]
 fn bodies_as_stretches() {
     let words = rules(S);
-    assert_eq!(body(&words, 1), (2, 2));
-    assert_eq!(body(&words, 2), (6, 2));
+    assert_eq!(body(&words, 1), (2, 3));
+    assert_eq!(body(&words, 2), (7, 3));
     let (start, length) = body(&words, 7);
-    assert_eq!(words[start as usize..][..length as usize], [0, 5, 1, 2, 0, 7, 1, 2, 0, 6]);
+    assert_eq!(
+        words[start as usize..][..length as usize],
+        [0, 5, 0, 1, 2, 1, 0, 7, 0, 1, 2, 2, 0, 6, 0]
+    );
     for none in [0, 10, u32::MAX] {
         assert_eq!(body(&words, none), (0, 0));
     }
@@ -45,29 +48,31 @@ fn typecodes() {
 #[test]
 fn rule_words() {
     let good: [&[u32]; 5] = [
-        &[2, 1, 0, 1],
-        &[65_535, 1, 1, 65_534],
-        &[2, 1, 1, 1],
-        &[3, 1, 1, 2, 2, 1, 1, 3],
-        &[2, 2, 1, 2, 1, 2],
+        &[2, 1, 0, 1, 0],
+        &[65_535, 1, 1, 65_534, 1],
+        &[2, 1, 1, 1, 1],
+        &[3, 1, 1, 2, 1, 2, 1, 1, 3, 1],
+        &[2, 2, 1, 2, 1, 1, 2, 2],
     ];
     for words in good {
         assert_ne!(rule_answers(1, 2, words), [10, 10, 10], "{words:?}");
     }
-    let bad: [&[u32]; 13] = [
-        &[0, 1, 0, 1],
-        &[65_536, 1, 0, 1],
-        &[1, 1, 0, 5],
+    let bad: [&[u32]; 15] = [
+        &[0, 1, 0, 1, 0],
+        &[65_536, 1, 0, 1, 0],
+        &[1, 1, 0, 5, 0],
         &[2, 0],
-        &[2, 0, 0, 5],
-        &[2, 1, 2, 5],
-        &[2, 1, 0, 0],
-        &[2, 1, 1, 65_536],
-        &[2, 1, 1, 2],
-        &[2, 1, 0, 5, 2],
-        &[2, 1, 0, 5, 2, 1],
-        &[2, 2, 0, 5, 0],
-        &[2, u32::MAX, 0, 5],
+        &[2, 0, 0, 5, 0],
+        &[2, 1, 2, 5, 0],
+        &[2, 1, 2, 5, 1],
+        &[2, 1, 0, 0, 0],
+        &[2, 1, 1, 65_536, 1],
+        &[2, 1, 1, 2, 1],
+        &[2, 1, 0, 5, 0, 2],
+        &[2, 1, 0, 5, 0, 2, 1],
+        &[2, 1, 0, 5],
+        &[2, 2, 0, 5, 0, 0, 6],
+        &[2, u32::MAX, 0, 5, 0],
     ];
     for words in bad {
         assert_eq!(rule_answers(1, 2, words), [10, 10, 10], "{words:?}");
@@ -75,15 +80,64 @@ fn rule_words() {
 }
 
 #[test]
+fn variables() {
+    for variable in [1, 2, 65_535] {
+        assert_ne!(rule_answers(1, 2, &[2, 1, 1, 3, variable]), [10, 10, 10], "{variable}");
+        assert_eq!(rule_answers(1, 2, &[2, 1, 0, 3, variable]), [10, 10, 10], "{variable}");
+    }
+    for variable in [0, 65_536, u32::MAX] {
+        assert_eq!(rule_answers(1, 2, &[2, 1, 1, 3, variable]), [10, 10, 10], "{variable}");
+    }
+    assert_eq!(rule_answers(1, 2, &[2, 1, 0, 3, 0]), [0, 1, 1]);
+}
+
+#[test]
+fn one_variable_in_two_slots() {
+    // Whatever typecodes they have, and however far apart they stand.
+    for bad in [
+        "2 s3:7 s4:7",
+        "2 s3:7 s3:7",
+        "2 s3:7 c10 s4:8 c11 s5:7",
+        "2 s3:2 c10 s4",
+        "2 c10; 3 c11 s2:1 s2:1",
+    ] {
+        assert_eq!(build_number(bad), 10, "{bad}");
+    }
+    let last = |variable| {
+        let slots: Vec<u32> = (1..=31).chain([variable]).flat_map(|variable| [1, 3, variable]).collect();
+        [vec![2, 32], slots].concat()
+    };
+    assert_eq!(
+        [1, 16, 31, 32].map(|variable| rule_answers(1, 2, &last(variable))[0]),
+        [10, 10, 10, 0]
+    );
+    // Variables belong to a rule.
+    assert_eq!(build_number("2 c10 s3:7; 2 c11 s4:7; 3 s4:7"), 0);
+}
+
+#[test]
+fn variables_change_nothing_else() {
+    let numbered = Desk::grown("2 c10; 2 c5 s2 c7 s2 c6; 3 s2; 2 c8 s3");
+    let named = Desk::grown("2 c10; 2 c5 s2:65535 c7 s2:10 c6; 3 s2:4; 2 c8 s3:1");
+    assert_eq!((&named.nodes, &named.edges), (&numbered.nodes, &numbered.edges));
+    let tokens = [1, 5, 8, 10, 7, 10, 6];
+    assert_eq!(named.parse(&tokens), numbered.parse(&tokens));
+    assert_eq!(named.verify(&tokens, &[1, 3, 4, 1, 2]), 0);
+    // A collision and the equal ends of a conversion are found whatever the variables are.
+    assert_eq!(build_number("2 c10 s2:5; 2 c10 s2:6"), 11);
+    assert_eq!(build_number("2 s2:5"), 10);
+}
+
+#[test]
 fn longest_body() {
-    let body = |items: u32| [vec![2, items], [0, 5].repeat(items as usize)].concat();
+    let body = |items: u32| [vec![2, items], [0, 5, 0].repeat(items as usize)].concat();
     assert_eq!(rule_answers(1, 2, &body(32)), [0, 1, 1]);
     assert_eq!(rule_answers(1, 2, &body(33)), [10, 10, 10]);
 }
 
 #[test]
 fn most_rules() {
-    let constants = |count: u32| (1..=count).flat_map(|symbol| [2, 1, 0, symbol]).collect::<Vec<_>>();
+    let constants = |count: u32| (1..=count).flat_map(|symbol| [2, 1, 0, symbol, 0]).collect::<Vec<_>>();
     assert_eq!(build_in(&constants(2_048), 2_049, 16 * 2_048).built.number, 0);
     assert_eq!(build_in(&constants(2_049), 3_000, 16 * 3_000).built.number, 10);
 }
@@ -242,7 +296,7 @@ fn build_rooms() {
 #[test]
 fn build_room_ends_at_the_limits() {
     // 1 + 13 * 630 + 1 nodes, and one more.
-    let fork = |symbol: u32, items: usize| [vec![2, items as u32], [0, symbol].repeat(items)].concat();
+    let fork = |symbol: u32, items: usize| [vec![2, items as u32], [0, symbol, 0].repeat(items)].concat();
     let forks: Vec<u32> = (1..=630).flat_map(|symbol| fork(symbol, 13)).collect();
     let with = |items| [forks.clone(), fork(1_000, items)].concat();
     assert_eq!(build_in(&with(1), 9_000, 16 * 9_000).built.nodes, 8_192);

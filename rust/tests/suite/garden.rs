@@ -1,8 +1,8 @@
 //! Garden paths through the library: whole trees and their sentences, each refusal, frames, and the builder.
 
-use jiehkavon::limits::{FRAME_WIDTH, MOST_CLONES, MOST_EDGES, MOST_NODES, ROW_WIDTH};
+use jiehkavon::limits::{FRAME_WIDTH, LABEL_WIDTH, MOST_CLONES, MOST_EDGES, MOST_NODES, ROW_WIDTH};
 use jiehkavon::words::{self, Built};
-use jiehkavon::{BuildError, Command, Edge, Grammar, GrammarBuilder, Item, ParseError, Parser, RefusedRules, Rules};
+use jiehkavon::{BuildError, Command, Edge, Grammar, GrammarBuilder, Label, ParseError, Parser, RefusedRules, Rules};
 
 use crate::examples::{Example, EXAMPLES, REFUSED};
 use crate::sets::{c, chain, rules_of, s, set_s, statement, symbol};
@@ -43,19 +43,19 @@ fn command(words: &[u32]) -> Option<(Command, &[u32])> {
     match words {
         [2, rest @ ..] => Some((Command::TypeConversions, rest)),
         [1, prefix, shadow, rest @ ..] => {
-            let (prefix, rest) = items(*prefix, rest)?;
-            let (shadow, rest) = items(*shadow, rest)?;
+            let (prefix, rest) = labels(*prefix, rest)?;
+            let (shadow, rest) = labels(*shadow, rest)?;
             Some((Command::GardenPath { prefix, shadow }, rest))
         }
         _ => None,
     }
 }
 
-fn items(count: u32, words: &[u32]) -> Option<(Vec<Item>, &[u32])> {
-    let width = 2 * count as usize;
-    let pairs = words.get(..width)?.chunks_exact(2);
-    let items: Option<Vec<Item>> = pairs.map(|pair| Item::from_words(pair[0], pair[1])).collect();
-    Some((items?, &words[width..]))
+fn labels(count: u32, words: &[u32]) -> Option<(Vec<Label>, &[u32])> {
+    let width = LABEL_WIDTH * count as usize;
+    let pairs = words.get(..width)?.chunks_exact(LABEL_WIDTH);
+    let labels: Option<Vec<Label>> = pairs.map(|pair| Label::from_words([pair[0], pair[1]])).collect();
+    Some((labels?, &words[width..]))
 }
 
 /// A builder with the commands of some words; none if they aren't commands.
@@ -76,16 +76,16 @@ fn grown(example: &Example) -> Grammar {
 
 /// An edge as it is written in the examples.
 fn edge_text(edge: Edge) -> String {
-    let item = match edge.item {
-        Item::Constant(symbol) => format!("c{symbol}"),
-        Item::Slot(typecode) => format!("s{typecode}"),
+    let label = match edge.label {
+        Label::Constant(symbol) => format!("c{symbol}"),
+        Label::Slot(typecode) => format!("s{typecode}"),
     };
     let reduces: String = edge
         .reduces
         .iter()
         .map(|reduce| format!(" {}@{}", reduce.rule, reduce.offset))
         .collect();
-    format!("{} {item} {}{reduces}", edge.from, edge.to)
+    format!("{} {label} {}{reduces}", edge.from, edge.to)
 }
 
 #[test]
@@ -309,11 +309,11 @@ fn the_builder_has_the_same_refusals_and_says_which_command_it_was() {
 }
 
 /// The path of the second example, and one that is not in its tree.
-fn good() -> ([Item; 2], [Item; 2]) {
+fn good() -> ([Label; 2], [Label; 2]) {
     ([c(5), s(3)], [c(5), s(2)])
 }
 
-fn absent() -> ([Item; 2], [Item; 2]) {
+fn absent() -> ([Label; 2], [Label; 2]) {
     ([c(5), s(7)], [c(5), s(2)])
 }
 
@@ -335,9 +335,9 @@ fn a_command_before_others() {
 /// Six conversions in a row, which can't be run over these rules.
 fn with_chain() -> Rules {
     let mut rules = rules_of(EXAMPLES[3].rules);
-    rules.push(symbol(2), &[c(31), s(46)]);
+    rules.push_numbered(symbol(2), &[c(31), s(46)]);
     for link in (40..46).rev() {
-        rules.push(symbol(link + 1), &[s(link)]);
+        rules.push_numbered(symbol(link + 1), &[s(link)]);
     }
     rules
 }

@@ -1,7 +1,7 @@
 //! Packages: what their bytes say, every refusal with its record, and both round trips.
 
 use jiehkavon::words::{self, Read, Written};
-use jiehkavon::{Grammar, Item, Package, Parser, ReadError, Rules, WriteError};
+use jiehkavon::{Grammar, Label, Package, Parser, ReadError, Rules, WriteError};
 
 use crate::sets::{c, grammar, rules, s, set_s, set_s10, symbol, Random, TEN_PASSES};
 
@@ -10,7 +10,9 @@ const H: &str = "0a000000 0100 01000000 02000000";
 /// The end record.
 const E: &str = "02000000 0400";
 /// The rule 2 [c10].
-const RULE: &str = "12000000 0200 02000000 01000000 00000000 0a000000";
+const RULE: &str = "16000000 0200 02000000 01000000 00000000 0a000000 00000000";
+/// The same in the old form.
+const OLD_RULE: &str = "12000000 0500 02000000 01000000 00000000 0a000000";
 /// The statement 1 10.
 const STATEMENT: &str = "0a000000 0300 01000000 0a000000";
 
@@ -49,7 +51,7 @@ fn refuses(parts: &[&str], number: u32, place: usize) {
 
 #[test]
 fn what_a_package_says() {
-    let read = |parts: &[&str]| read_into(&hex(parts), 5, 4);
+    let read = |parts: &[&str]| read_into(&hex(parts), 6, 4);
     let answer = |rules, statements, words| Read {
         provable: 1,
         logic: 2,
@@ -58,19 +60,20 @@ fn what_a_package_says() {
         words,
         ..REFUSED
     };
-    assert_eq!(read(&[H, E]), (answer(0, 0, 0), vec![0; 5], vec![0; 4]));
-    assert_eq!(read(&[H, STATEMENT, E]), (answer(0, 1, 3), vec![0; 5], vec![2, 1, 10, 0]));
+    assert_eq!(read(&[H, E]), (answer(0, 0, 0), vec![0; 6], vec![0; 4]));
+    assert_eq!(read(&[H, STATEMENT, E]), (answer(0, 1, 3), vec![0; 6], vec![2, 1, 10, 0]));
     // a statement of no tokens, and two of them
     let none = "02000000 0300";
-    assert_eq!(read(&[H, none, E]), (answer(0, 1, 1), vec![0; 5], vec![0; 4]));
-    assert_eq!(read(&[H, none, STATEMENT, E]), (answer(0, 2, 4), vec![0; 5], vec![0, 2, 1, 10]));
+    assert_eq!(read(&[H, none, E]), (answer(0, 1, 1), vec![0; 6], vec![0; 4]));
+    assert_eq!(read(&[H, none, STATEMENT, E]), (answer(0, 2, 4), vec![0; 6], vec![0, 2, 1, 10]));
     assert_eq!(
         read(&[H, RULE, STATEMENT, E]),
-        (answer(4, 1, 3), vec![2, 1, 0, 10, 0], vec![2, 1, 10, 0])
+        (answer(5, 1, 3), vec![2, 1, 0, 10, 0, 0], vec![2, 1, 10, 0])
     );
+    assert_eq!(read(&[H, OLD_RULE, STATEMENT, E]), read(&[H, RULE, STATEMENT, E]));
     // tokens are any words
     let wild = "0a000000 0300 00000000 ffffffff";
-    assert_eq!(read(&[H, wild, E]), (answer(0, 1, 3), vec![0; 5], vec![2, 0, u32::MAX, 0]));
+    assert_eq!(read(&[H, wild, E]), (answer(0, 1, 3), vec![0; 6], vec![2, 0, u32::MAX, 0]));
 }
 
 #[test]
@@ -100,7 +103,7 @@ fn a_length_cut_short_or_under_2_or_past_the_file() {
 
 #[test]
 fn a_kind_that_there_is_not() {
-    for kind in ["0000", "0500", "0401", "0001", "0101", "ffff"] {
+    for kind in ["0000", "0600", "0401", "0501", "0001", "0101", "ffff"] {
         refuses(&["02000000", kind], 21, 0);
         refuses(&[H, "02000000", kind, E], 21, 1);
         // it comes before the size
@@ -114,14 +117,24 @@ fn a_body_of_the_wrong_size() {
     refuses(&["02000000 0100", E], 22, 0);
     refuses(&["09000000 0100 01000000 020000", E], 22, 0);
     refuses(&["0e000000 0100 01000000 02000000 03000000", E], 22, 0);
-    // a rule: no length in it, one item too few, one too many, a byte too many
-    refuses(&[H, "02000000 0200", E], 22, 1);
-    refuses(&[H, "06000000 0200 02000000", E], 22, 1);
-    refuses(&[H, "09000000 0200 02000000 010000", E], 22, 1);
-    refuses(&[H, "0a000000 0200 02000000 01000000", E], 22, 1);
-    refuses(&[H, "12000000 0200 02000000 02000000 00000000 0a000000", E], 22, 1);
-    refuses(&[H, "12000000 0200 02000000 00000000 00000000 0a000000", E], 22, 1);
-    refuses(&[H, "13000000 0200 02000000 01000000 00000000 0a000000 00", E], 22, 1);
+    // a rule of either form: no length in it, one item too few, one too many, a byte too many
+    for (kind, item) in [("0200", "00000000 0a000000 00000000"), ("0500", "00000000 0a000000")] {
+        refuses(&[H, "02000000", kind, E], 22, 1);
+        refuses(&[H, "06000000", kind, "02000000", E], 22, 1);
+        refuses(&[H, "09000000", kind, "02000000 010000", E], 22, 1);
+        refuses(&[H, "0a000000", kind, "02000000 01000000", E], 22, 1);
+        let (length, longer) = if kind == "0200" {
+            ("16000000", "17000000")
+        } else {
+            ("12000000", "13000000")
+        };
+        refuses(&[H, length, kind, "02000000 02000000", item, E], 22, 1);
+        refuses(&[H, length, kind, "02000000 00000000", item, E], 22, 1);
+        refuses(&[H, longer, kind, "02000000 01000000", item, "00", E], 22, 1);
+    }
+    // one form under the kind of the other
+    refuses(&[H, "12000000 0200 02000000 01000000 00000000 0a000000", E], 22, 1);
+    refuses(&[H, "16000000 0500 02000000 01000000 00000000 0a000000 00000000", E], 22, 1);
     // a statement that is not whole words, an end with a byte
     refuses(&[H, "03000000 0300 01", E], 22, 1);
     refuses(&[H, "09000000 0300 01000000 0a0000", E], 22, 1);
@@ -130,11 +143,14 @@ fn a_body_of_the_wrong_size() {
 
 #[test]
 fn sizes_do_not_wrap() {
-    refuses(&[H, "12000000 0200 02000000 01000020 00000000 0a000000", E], 22, 1);
-    for length in ["00000020", "00000040", "00000080", "ffffffff", "000000c0"] {
-        refuses(&[H, "0a000000 0200 02000000", length, E], 22, 1);
+    for length in ["01000020", "01000040", "01000080", "abaaaaaa", "56555555"] {
+        refuses(&[H, "16000000 0200 02000000", length, "00000000 0a000000 00000000", E], 22, 1);
+        refuses(&[H, "12000000 0500 02000000", length, "00000000 0a000000", E], 22, 1);
     }
-    refuses(&[H, "12000000 0200 02000000 01000080 00000000 0a000000", E], 22, 1);
+    for length in ["00000020", "00000040", "00000080", "ffffffff", "000000c0", "55555555", "abaaaaaa"] {
+        refuses(&[H, "0a000000 0200 02000000", length, E], 22, 1);
+        refuses(&[H, "0a000000 0500 02000000", length, E], 22, 1);
+    }
 }
 
 #[test]
@@ -145,6 +161,8 @@ fn a_wrong_order() {
     refuses(&[H, H, E], 23, 1);
     refuses(&[H, RULE, H, E], 23, 2);
     refuses(&[H, STATEMENT, RULE, E], 23, 2);
+    refuses(&[H, STATEMENT, OLD_RULE, E], 23, 2);
+    refuses(&[OLD_RULE, E], 23, 0);
     refuses(&[H, RULE, STATEMENT, STATEMENT, RULE, E], 23, 4);
     // the size comes first
     refuses(&[H, "06000000 0100 01000000", E], 22, 1);
@@ -154,19 +172,34 @@ fn a_wrong_order() {
 
 #[test]
 fn bad_rules_in_a_package() {
-    let body = |items: usize| "00000000 0a000000".repeat(items);
+    let body = |items: usize| "00000000 0a000000 00000000".repeat(items);
+    let old_body = |items: usize| "00000000 0a000000".repeat(items);
     // no item is a size like any other, and then a bad rule; so are 33
     refuses(&[H, "0a000000 0200 02000000 00000000", E], 10, 0);
-    refuses(&[H, "12010000 0200 02000000 21000000", &body(33), E], 10, 0);
-    let good = hex(&[H, "0a010000 0200 02000000 20000000", &body(32), E]);
-    assert_eq!(
-        Package::read(&good).map(|package| package.rules().clone()),
-        Ok(rules(&[(2, &[c(10); 32])]))
-    );
+    refuses(&[H, "0a000000 0500 02000000 00000000", E], 10, 0);
+    refuses(&[H, "96010000 0200 02000000 21000000", &body(33), E], 10, 0);
+    refuses(&[H, "12010000 0500 02000000 21000000", &old_body(33), E], 10, 0);
+    let good = hex(&[H, "8a010000 0200 02000000 20000000", &body(32), E]);
+    let old = hex(&[H, "0a010000 0500 02000000 20000000", &old_body(32), E]);
+    for bytes in [good, old] {
+        assert_eq!(
+            Package::read(&bytes).map(|package| package.rules().clone()),
+            Ok(rules(&[(2, &[c(10); 32])]))
+        );
+    }
     // a result that is provable, a kind of item that is none, a conversion with equal ends
-    refuses(&[H, "12000000 0200 01000000 01000000 00000000 0a000000", E], 10, 0);
-    refuses(&[H, "12000000 0200 02000000 01000000 02000000 0a000000", E], 10, 0);
-    refuses(&[H, RULE, "12000000 0200 02000000 01000000 01000000 02000000", E], 10, 0);
+    refuses(&[H, "16000000 0200 01000000 01000000 00000000 0a000000 00000000", E], 10, 0);
+    refuses(&[H, "16000000 0200 02000000 01000000 02000000 0a000000 00000000", E], 10, 0);
+    refuses(&[H, RULE, "16000000 0200 02000000 01000000 01000000 02000000 01000000", E], 10, 0);
+    refuses(&[H, "12000000 0500 02000000 01000000 02000000 0a000000", E], 10, 0);
+    refuses(&[H, "12000000 0500 02000000 01000000 01000000 02000000", E], 10, 0);
+    // a constant with a variable, a slot without one, one past the last, and one in two slots
+    refuses(&[H, "16000000 0200 02000000 01000000 00000000 0a000000 01000000", E], 10, 0);
+    refuses(&[H, "16000000 0200 02000000 01000000 01000000 03000000 00000000", E], 10, 0);
+    refuses(&[H, "16000000 0200 02000000 01000000 01000000 03000000 00000100", E], 10, 0);
+    let two = "22000000 0200 02000000 02000000 01000000 03000000 07000000 01000000 04000000";
+    refuses(&[H, two, "07000000", E], 10, 0);
+    assert!(Package::read(&hex(&[H, two, "08000000", E])).is_ok());
     // bad typecodes are bad rules
     for typecodes in ["01000000 01000000", "00000000 02000000", "01000000 00000000", "01000000 00000100"] {
         refuses(&["0a000000 0100", typecodes, E], 10, 0);
@@ -180,14 +213,14 @@ fn slices_that_are_too_short() {
     let bytes = hex(&[H, RULE, STATEMENT, E]);
     let short = Read { number: 7, ..REFUSED };
     for (rules, statements, number) in [
-        (4, 3, 0),
-        (3, 3, 7),
-        (4, 2, 7),
+        (5, 3, 0),
+        (4, 3, 7),
+        (5, 2, 7),
         (0, 3, 7),
-        (4, 0, 7),
+        (5, 0, 7),
         (0, 0, 7),
         (9, 2, 7),
-        (3, 9, 7),
+        (4, 9, 7),
     ] {
         let (read, lent_rules, lent_statements) = read_into(&bytes, rules, statements);
         assert_eq!(read.number, number, "{rules} {statements}");
@@ -197,8 +230,8 @@ fn slices_that_are_too_short() {
     }
     // before bad rules, and after everything that is wrong with a record
     let bad = hex(&["0a000000 0100 01000000 01000000", RULE, E]);
-    assert_eq!(read_into(&bad, 3, 0), (short, vec![0; 3], vec![]));
-    assert_eq!(read_into(&bad, 4, 0), (Read { number: 10, ..REFUSED }, vec![0; 4], vec![]));
+    assert_eq!(read_into(&bad, 4, 0), (short, vec![0; 4], vec![]));
+    assert_eq!(read_into(&bad, 5, 0), (Read { number: 10, ..REFUSED }, vec![0; 5], vec![]));
     let cut = hex(&[H, RULE, STATEMENT]);
     assert_eq!(
         read_into(&cut, 0, 0).0,
@@ -210,9 +243,37 @@ fn slices_that_are_too_short() {
     );
     // the words of every rule, past the last that is allowed too
     let many = hex(&[H, &RULE.repeat(2_049), E]);
-    assert_eq!(read_into(&many, 4 * 2_048, 0).0.number, 7);
-    assert_eq!(read_into(&many, 4 * 2_049 - 1, 0).0.number, 7);
-    assert_eq!(read_into(&many, 4 * 2_049, 0).0.number, 10);
+    assert_eq!(read_into(&many, 5 * 2_048, 0).0.number, 7);
+    assert_eq!(read_into(&many, 5 * 2_049 - 1, 0).0.number, 7);
+    assert_eq!(read_into(&many, 5 * 2_049, 0).0.number, 10);
+    // a rule of the old form needs the words that it has in the new one
+    let old = hex(&[H, OLD_RULE, E]);
+    assert_eq!([4, 5].map(|words| read_into(&old, words, 0).0.number), [7, 0]);
+}
+
+#[test]
+fn rules_of_the_old_form() {
+    // c10 s2, and s3 c8 s3: slots are counted, and not items
+    let counted = "1a000000 0500 02000000 02000000 00000000 0a000000 01000000 02000000";
+    let twice = "22000000 0500 02000000 03000000 01000000 03000000 00000000 08000000 01000000 03000000";
+    // the same rules, the second with variables of its own
+    let named = "2e000000 0200 02000000 03000000 01000000 03000000 09000000 00000000 08000000 00000000 01000000 03000000 05000000";
+    let of = |parts: &[&str]| Package::read(&hex(parts)).map(|package| package.rules().words().to_vec());
+    assert_eq!(of(&[H, counted, E]), Ok(vec![2, 2, 0, 10, 0, 1, 2, 1]));
+    let read = of(&[H, counted, twice, E]);
+    assert_eq!(read, Ok(vec![2, 2, 0, 10, 0, 1, 2, 1, 2, 3, 1, 3, 1, 0, 8, 0, 1, 3, 2]));
+    assert_eq!(
+        of(&[H, counted, named, E]),
+        Ok(vec![2, 2, 0, 10, 0, 1, 2, 1, 2, 3, 1, 3, 9, 0, 8, 0, 1, 3, 5])
+    );
+    // what is written has the new form, and reads the same
+    let mixed = hex(&[H, named, counted, STATEMENT, E]);
+    let package = Package::read(&mixed).expect("a package");
+    let bytes = package.write().expect("bytes");
+    assert_ne!(bytes, mixed);
+    let new = "22000000 0200 02000000 02000000 00000000 0a000000 00000000 01000000 02000000 01000000";
+    assert_eq!(bytes, hex(&[H, named, new, STATEMENT, E]));
+    assert_eq!(Package::read(&bytes), Ok(package));
 }
 
 /// A write into garbage; gives back the answer and the bytes.
@@ -369,8 +430,8 @@ fn random_package(random: &mut Random) -> Package {
     let mut set = rules(&[]);
     for _ in 0..random.below(6) {
         let result = symbol(random.pick(&[2, 4, 65_535]));
-        let items: Vec<Item> = (0..1 + random.below(32)).map(|_| [c(5), c(10), s(3)][random.below(3)]).collect();
-        set.push(result, &items);
+        let labels: Vec<Label> = (0..1 + random.below(32)).map(|_| [c(5), c(10), s(3)][random.below(3)]).collect();
+        set.push_numbered(result, &labels);
     }
     let mut package = Package::new(set);
     for _ in 0..random.below(6) {
@@ -423,15 +484,19 @@ fn the_room_is_worked_out() {
         package.push(&[]);
     }
     let bytes = package.write().expect("bytes");
-    assert_eq!(bytes.len(), 14 + (6 + 4 * 66) + 6 * 10_000 + 6);
+    assert_eq!(bytes.len(), 14 + (6 + 4 * 98) + 6 * 10_000 + 6);
     assert_eq!(Package::read(&bytes), Ok(package));
+    // in the old form, bytes that need the most words for a rule
+    let longest = ["0a010000 0500 02000000 20000000", &"01000000 03000000".repeat(32)].concat();
+    let old = hex(&[H, &longest.repeat(2_048), E]);
+    assert_eq!(Package::read(&old).map(|package| package.rules().words().len()), Ok(2_048 * 98));
     // longer than any statement that is parsed, and more rules than a build takes
     let mut long = Package::new(set_s10());
     long.push(&vec![14; 100_000]);
     assert_eq!(Package::read(&long.write().expect("bytes")), Ok(long));
     let mut many = rules(&[]);
     for label in 1..=2_049 {
-        many.push(symbol(2), &[c(label)]);
+        many.push_numbered(symbol(2), &[c(label)]);
     }
     assert!(Grammar::build(many.clone()).is_err());
     assert_eq!(Package::new(many).write(), Err(WriteError::BadRules));

@@ -38,7 +38,7 @@ fn builds() {
 fn apart(count: u32) -> Rules {
     let mut rules = rules(&[]);
     for first in 100..100 + count {
-        rules.push(symbol(2), &[c(first), c(5), c(6), c(7), c(8)]);
+        rules.push_numbered(symbol(2), &[c(first), c(5), c(6), c(7), c(8)]);
     }
     rules
 }
@@ -47,9 +47,9 @@ fn apart(count: u32) -> Rules {
 fn nodes_up_to_the_limit() {
     // node 0, 1,638 times 5, and one more
     let mut full = apart(1_638);
-    full.push(symbol(2), &[c(99)]);
+    full.push_numbered(symbol(2), &[c(99)]);
     assert_eq!(grammar(full.clone()).tables().node_words().len(), 8_192);
-    full.push(symbol(2), &[c(98)]);
+    full.push_numbered(symbol(2), &[c(98)]);
     assert_eq!(refused(full), BuildError::NodesFull);
 }
 
@@ -57,16 +57,16 @@ fn nodes_up_to_the_limit() {
 fn copied(fan: u32, sides: u32, more: u32) -> Rules {
     let mut rules = rules(&[]);
     for label in 0..fan {
-        rules.push(symbol(3), &[s(2), c(1_000 + label)]);
+        rules.push_numbered(symbol(3), &[s(2), c(1_000 + label)]);
     }
     for side in 0..sides {
-        rules.push(symbol(3), &[s(10 + side), c(999)]);
+        rules.push_numbered(symbol(3), &[s(10 + side), c(999)]);
     }
     for label in 0..more {
-        rules.push(symbol(3), &[c(100 + label)]);
+        rules.push_numbered(symbol(3), &[c(100 + label)]);
     }
     for side in 0..sides {
-        rules.push(symbol(2), &[s(10 + side)]);
+        rules.push_numbered(symbol(2), &[s(10 + side)]);
     }
     rules
 }

@@ -2,7 +2,7 @@
 
 use jiehkavon::limits::{MOST_EDGES, MOST_NODES, ROW_WIDTH};
 use jiehkavon::words::{self, Answer};
-use jiehkavon::{BuildError, Grammar, Item, Room, Rules, Tables};
+use jiehkavon::{BuildError, Grammar, Label, Room, Rules, Tables};
 
 use crate::sets::{c, chain, grammar, parse, prefixes, rules, s, set_s, set_s10, set_t, symbol, Lent, Random};
 
@@ -136,10 +136,10 @@ fn random_rules(random: &mut Random) -> Rules {
     for _ in 0..2 + random.below(7) {
         let (first, last) = (s(random.pick(&TYPECODES)), s(random.pick(&TYPECODES)));
         let constant = c(random.pick(&[10, 11, 12, 13]));
-        let bodies: [&[Item]; 4] = [&[first], &[first, constant], &[first, constant, last], &[constant]];
+        let bodies: [&[Label]; 4] = [&[first], &[first, constant], &[first, constant, last], &[constant]];
         // a conversion as often as not
         let kind = random.below(6).saturating_sub(2);
-        set.push(symbol(random.pick(&TYPECODES)), bodies[kind]);
+        set.push_numbered(symbol(random.pick(&TYPECODES)), bodies[kind]);
     }
     set
 }

@@ -1,25 +1,25 @@
 //! Rule sets and calls that the tests share.
 
 use jiehkavon::words::{self, Answer};
-use jiehkavon::{Grammar, Item, Rules, Statement, Symbol};
+use jiehkavon::{Grammar, Label, Rules, Statement, Symbol};
 
 pub fn symbol(word: u32) -> Symbol {
     Symbol::new(word).expect("a symbol")
 }
 
-pub fn c(word: u32) -> Item {
-    Item::Constant(symbol(word))
+pub fn c(word: u32) -> Label {
+    Label::Constant(symbol(word))
 }
 
-pub fn s(word: u32) -> Item {
-    Item::Slot(symbol(word))
+pub fn s(word: u32) -> Label {
+    Label::Slot(symbol(word))
 }
 
-/// Rules over provable 1 and logic 2.
-pub fn rules(list: &[(u32, &[Item])]) -> Rules {
+/// Rules over provable 1 and logic 2. Slots have the variables 1, 2, 3 and so on in each.
+pub fn rules(list: &[(u32, &[Label])]) -> Rules {
     let mut rules = Rules::new(symbol(1), symbol(2));
-    for (result, items) in list {
-        rules.push(symbol(*result), items);
+    for (result, labels) in list {
+        rules.push_numbered(symbol(*result), labels);
     }
     rules
 }
@@ -30,13 +30,13 @@ pub fn rules_of(text: &str) -> Rules {
     for rule in text.split(';').filter(|rule| !rule.trim().is_empty()) {
         let mut words = rule.split_whitespace();
         let result = number(words.next().expect("a result"));
-        let items: Vec<Item> = words.map(item_of).collect();
-        rules.push(symbol(result), &items);
+        let labels: Vec<Label> = words.map(label_of).collect();
+        rules.push_numbered(symbol(result), &labels);
     }
     rules
 }
 
-fn item_of(text: &str) -> Item {
+fn label_of(text: &str) -> Label {
     let (kind, word) = text.split_at(1);
     match kind {
         "c" => c(number(word)),
@@ -64,7 +64,7 @@ pub fn set_s() -> Rules {
 
 pub fn set_s10() -> Rules {
     let mut rules = set_s();
-    rules.push(symbol(2), &[s(4), c(15), s(4)]);
+    rules.push_numbered(symbol(2), &[s(4), c(15), s(4)]);
     rules
 }
 
@@ -76,7 +76,7 @@ pub fn set_t() -> Rules {
 pub fn chain(links: u32) -> Rules {
     let mut rules = rules(&[(20, &[c(30)]), (2, &[c(31), s(20 + links)])]);
     for link in (0..links).rev() {
-        rules.push(symbol(21 + link), &[s(20 + link)]);
+        rules.push_numbered(symbol(21 + link), &[s(20 + link)]);
     }
     rules
 }

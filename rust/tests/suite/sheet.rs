@@ -1,14 +1,14 @@
 //! The rows of the training sheet, through the wrapper.
 
 use jiehkavon::words::Answer;
-use jiehkavon::{BuildError, Edge, Formula, Grammar, NodeNo, ParseError, Parser, Reduce, RuleNo, VerifyError};
+use jiehkavon::{BuildError, Edge, Formula, Grammar, Label, NodeNo, ParseError, Parser, Reduce, RuleNo, VerifyError};
 
 use crate::sets::{c, chain, grammar, parse, prefixes, s, set_s, set_s10, set_t, statement, Lent, TEN_PASSES};
 
-fn converted(from: u32, item: jiehkavon::Item, to: u32) -> Edge {
+fn converted(from: u32, label: Label, to: u32) -> Edge {
     Edge {
         from: NodeNo(from),
-        item,
+        label,
         to: NodeNo(to),
         reduces: vec![Reduce {
             rule: RuleNo(5),
@@ -39,7 +39,7 @@ fn with_rule_10_edges_are_copied() {
     let leaving: Vec<Edge> = grammar.tables().edges().filter(|edge| edge.from == NodeNo(17)).collect();
     let own = Edge {
         from: NodeNo(17),
-        item: c(15),
+        label: c(15),
         to: NodeNo(18),
         reduces: vec![],
     };

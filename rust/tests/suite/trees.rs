@@ -24,7 +24,7 @@ fn children_of_each_entry() {
     assert_eq!(tree.subtrees().map(|part| part.rule()).collect::<Formula>(), formula);
     let root = tree.root();
     assert_eq!((root.place(), root.rule(), root.result()), (3, RuleNo(8), symbol(2)));
-    assert_eq!(root.items(), [s(3), c(8), s(3)]);
+    assert!(root.items().iter().map(|item| item.label()).eq([s(3), c(8), s(3)]));
     assert_eq!(
         root.children().map(|child| child.result()).collect::<Vec<_>>(),
         [symbol(3), symbol(3)]

@@ -5,6 +5,7 @@
 //! purpose, each in one way.
 
 use self::Item::{Constant, Slot};
+use crate::bodies::numbered;
 use crate::inputs::commands::{words, Command};
 use crate::inputs::gardens::garden;
 use crate::random::Random;
@@ -75,14 +76,10 @@ pub struct Set {
 }
 
 impl Set {
-    /// The rule table.
+    /// The rule table. The Rust is told no variables, and here it is 1, 2, 3 and so on in each rule.
     pub fn words(&self) -> Vec<u32> {
-        let mut words = Vec::new();
-        for rule in &self.rules {
-            words.extend([rule.result, rule.body.len() as u32]);
-            words.extend(rule.body.iter().flat_map(|item| item.pair()));
-        }
-        words
+        let pairs = |rule: &Rule| rule.body.iter().map(|item| item.pair()).collect::<Vec<_>>();
+        self.rules.iter().flat_map(|rule| numbered(rule.result, &pairs(rule))).collect()
     }
 
     pub fn command_words(&self) -> Vec<u32> {

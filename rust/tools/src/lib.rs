@@ -1,4 +1,5 @@
 //! What the comparisons, the reader and the benchmark share.
+pub mod bodies;
 pub mod grown;
 pub mod held;
 pub mod inputs;

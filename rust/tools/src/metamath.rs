@@ -1,9 +1,9 @@
 //! A reader of Metamath databases: what a grammar needs of one, as numbers.
 //!
 //! Proofs and distinct variables are passed over. A variable's `$f` becomes a rule with one constant, an `$a` of a typecode other than the
-//! provable one a rule with constants and slots; every other `$a`, and every `$e` and `$p`, is a statement.
+//! provable one a rule with constants and slots, each slot with the symbol of its variable; every other `$a`, and every `$e` and `$p`, is a statement.
 
-use jiehkavon::{Grammar, GrammarBuilder, NotASymbol, Package, Rules, Symbol};
+use jiehkavon::{Grammar, GrammarBuilder, Label, NotASymbol, Package, Rules, Symbol, Variable};
 use std::collections::HashMap;
 use std::str::SplitAsciiWhitespace;
 
@@ -14,15 +14,37 @@ const LOGIC: &str = "wff";
 #[derive(Clone, Copy, Debug, PartialEq, Eq)]
 pub enum Item {
     Constant(u32),
-    Slot(u32),
+    /// A variable is its symbol.
+    Slot {
+        typecode: u32,
+        variable: u32,
+    },
 }
 
 impl Item {
     /// The item as the library's crate has it.
     fn typed(self) -> Result<jiehkavon::Item, NotASymbol> {
+        Ok(match self {
+            Item::Constant(s) => jiehkavon::Item::Constant(Symbol::try_from(s)?),
+            Item::Slot { typecode, variable } => jiehkavon::Item::Slot {
+                typecode: Symbol::try_from(typecode)?,
+                variable: Variable(Symbol::try_from(variable)?),
+            },
+        })
+    }
+
+    fn pair(self) -> [u32; 2] {
         match self {
-            Item::Constant(s) => Symbol::try_from(s).map(jiehkavon::Item::Constant),
-            Item::Slot(t) => Symbol::try_from(t).map(jiehkavon::Item::Slot),
+            Item::Constant(s) => [0, s],
+            Item::Slot { typecode, .. } => [1, typecode],
+        }
+    }
+
+    fn words(self) -> [u32; 3] {
+        let [kind, symbol] = self.pair();
+        match self {
+            Item::Constant(_) => [kind, symbol, 0],
+            Item::Slot { variable, .. } => [kind, symbol, variable],
         }
     }
 }
@@ -156,10 +178,7 @@ impl Database {
         let mut words = Vec::new();
         for rule in &self.rules {
             words.extend([rule.result, rule.body.len() as u32]);
-            words.extend(rule.body.iter().flat_map(|item| match *item {
-                Item::Constant(s) => [0, s],
-                Item::Slot(t) => [1, t],
-            }));
+            words.extend(rule.body.iter().flat_map(|item| item.words()));
         }
         words
     }
@@ -201,15 +220,13 @@ impl Database {
 
     /// The commands as the words that the library is lent.
     pub fn command_words(&self) -> Vec<u32> {
-        let words = |item: &Item| match *item {
-            Item::Constant(s) => [0, s],
-            Item::Slot(t) => [1, t],
-        };
         let command = |command: &Command| match command {
             Command::TypeConversions => vec![2],
             Command::GardenPath(prefix, shadow) => {
                 let head = [1, prefix.len() as u32, shadow.len() as u32];
-                head.into_iter().chain(prefix.iter().chain(shadow).flat_map(words)).collect()
+                head.into_iter()
+                    .chain(prefix.iter().chain(shadow).flat_map(|item| item.pair()))
+                    .collect()
             }
         };
         self.commands.iter().flat_map(command).collect()
@@ -217,12 +234,13 @@ impl Database {
 
     /// The rules and commands, to be built by the library's crate.
     pub fn builder(&self) -> Result<GrammarBuilder, NotASymbol> {
-        let typed = |items: &[Item]| items.iter().map(|item| item.typed()).collect::<Result<Vec<_>, _>>();
+        let label = |item: &Item| item.typed().map(jiehkavon::Item::label);
+        let labels = |items: &[Item]| items.iter().map(label).collect::<Result<Vec<Label>, _>>();
         let mut builder = Grammar::builder(self.rules()?);
         for command in &self.commands {
             builder = match command {
                 Command::TypeConversions => builder.type_conversions(),
-                Command::GardenPath(prefix, shadow) => builder.garden_path(&typed(prefix)?, &typed(shadow)?),
+                Command::GardenPath(prefix, shadow) => builder.garden_path(&labels(prefix)?, &labels(shadow)?),
             };
         }
         Ok(builder)
@@ -239,9 +257,13 @@ impl Database {
             .iter()
             .position(|s| s == name)
             .ok_or_else(|| format!("{name} isn't declared"))?;
-        let constant = Item::Constant(at as u32 + 1);
+        let symbol = at as u32 + 1;
+        let constant = Item::Constant(symbol);
         let float = self.rules.iter().find(|r| r.float && r.body == [constant]);
-        Ok(float.map_or(constant, |r| Item::Slot(r.result)))
+        Ok(float.map_or(constant, |r| Item::Slot {
+            typecode: r.result,
+            variable: symbol,
+        }))
     }
 }
 
@@ -252,11 +274,11 @@ pub enum Command {
     GardenPath(Vec<Item>, Vec<Item>),
 }
 
-/// A length and that many pairs.
+/// A length and that many pairs: the Rust makes variables of its own.
 fn pairs(body: &[Item]) -> String {
-    let pair = |item: &Item| match *item {
-        Item::Constant(s) => format!(" 0 {s}"),
-        Item::Slot(t) => format!(" 1 {t}"),
+    let pair = |item: &Item| {
+        let [kind, symbol] = item.pair();
+        format!(" {kind} {symbol}")
     };
     body.len().to_string() + &body.iter().map(pair).collect::<String>()
 }
@@ -447,7 +469,10 @@ impl<'a> Reader<'a> {
         }
         let float = self.floats.iter().rev().find(|(variable, _)| *variable == symbol);
         let (_, typecode) = float.ok_or_else(|| format!("no $f is in force for {}", self.database.symbols[symbol as usize - 1]))?;
-        Ok(Item::Slot(*typecode))
+        Ok(Item::Slot {
+            typecode: *typecode,
+            variable: symbol,
+        })
     }
 }
 
@@ -474,10 +499,28 @@ mod tests {
         assert_eq!(names(d.rules.iter().map(|r| r.label.clone())), "fp cv vx vy tA tB eq");
         assert_eq!(d.repeated, 1);
         assert_eq!(names(d.symbols.iter().cloned()), "holds form thing ( = ) set p x y A B");
-        let words = [
-            2, 1, 0, 8, 3, 1, 1, 7, 7, 1, 0, 9, 7, 1, 0, 10, 3, 1, 0, 11, 3, 1, 0, 12, 2, 5, 0, 4, 1, 3, 0, 5, 1, 3, 0, 6,
+        let rules: [&[u32]; 7] = [
+            &[2, 1, 0, 8, 0],
+            &[3, 1, 1, 7, 9],
+            &[7, 1, 0, 9, 0],
+            &[7, 1, 0, 10, 0],
+            &[3, 1, 0, 11, 0],
+            &[3, 1, 0, 12, 0],
+            &[2, 5, 0, 4, 0, 1, 3, 11, 0, 5, 0, 1, 3, 12, 0, 6, 0],
         ];
-        assert_eq!(d.rule_words(), words);
+        assert_eq!(d.rule_words(), rules.concat());
+    }
+
+    #[test]
+    fn one_variable_twice_makes_a_bad_rule() {
+        let number = |body: &str| {
+            let d = Database::read(&format!(
+                "$c |- wff ( $. $v p q $. fp $f wff p $. fq $f wff q $. r $a wff {body} $."
+            ))
+            .expect("it is a database");
+            plain::build(d.provable, d.logic, &d.rule_words(), &[], &mut [0; 9], &mut [0; 160], &mut []).number
+        };
+        assert_eq!(["( p q", "( p p", "( p q p"].map(number), [0, 10, 10]);
     }
 
     #[test]
@@ -524,7 +567,7 @@ mod tests {
             [1, 2, 2, 0, 4, 1, 7, 0, 4, 1, 3, 2, 1, 2, 3, 0, 4, 0, 4, 0, 4, 1, 3, 1, 7]
         );
         assert_eq!((d.symbols.len(), d.rules.len()), (before.0 + 1, before.1 + 1));
-        assert!(d.rule_words().ends_with(&[3, 3, 0, 4, 0, 4, 0, 13]));
+        assert!(d.rule_words().ends_with(&[3, 3, 0, 4, 0, 0, 4, 0, 0, 13, 0]));
         let refused = |text: &str| read().add_commands(text).is_err();
         assert!(["( x", "( nothing => ( A", "type_conversions ;", "rule x (", "rule nothing ("]
             .iter()

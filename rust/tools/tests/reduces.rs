@@ -4,6 +4,7 @@
 //! Nodes stand in a row, and each edge takes the token 10. Every rule has the one typecode and spells that token only, so whatever the reduces
 //! are, the list is a formula in the end: the leaf's rule takes all trees that are left, and the tokens that nothing has spelled.
 
+use tools::bodies::numbered;
 use tools::random::Random;
 
 const CASES: usize = 3_000;
@@ -24,7 +25,7 @@ struct Case {
 }
 
 fn rule((slots, tokens): (usize, usize)) -> Vec<u32> {
-    [vec![2, (slots + tokens) as u32], [1, 2].repeat(slots), [0, TOKEN].repeat(tokens)].concat()
+    numbered(2, &[vec![[1, 2]; slots], vec![[0, TOKEN]; tokens]].concat())
 }
 
 fn row(from: usize, reduces: &[[u32; 2]]) -> Vec<u32> {

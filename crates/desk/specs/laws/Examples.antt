@@ -23,28 +23,28 @@ ten = 1 ∷ 5 ∷ 10 ∷ 7 ∷ 11 ∷ 6 ∷ []
 
 -- sets on which the Rust accepts what it should not, or panics
 set-1 : List ℕ
-set-1 = 2 ∷ 1 ∷ 1 ∷ 4 ∷ 3 ∷ 1 ∷ 1 ∷ 2 ∷ 4 ∷ 1 ∷ 0 ∷ 10 ∷ 2 ∷ 2 ∷ 0 ∷ 11 ∷ 1 ∷ 3 ∷ []
+set-1 = 2 ∷ 1 ∷ 1 ∷ 4 ∷ 1 ∷ 3 ∷ 1 ∷ 1 ∷ 2 ∷ 1 ∷ 4 ∷ 1 ∷ 0 ∷ 10 ∷ 0 ∷ 2 ∷ 2 ∷ 0 ∷ 11 ∷ 0 ∷ 1 ∷ 3 ∷ 1 ∷ []
 
 set-2 : List ℕ
-set-2 = 2 ∷ 1 ∷ 1 ∷ 4 ∷ 3 ∷ 1 ∷ 1 ∷ 2 ∷ 4 ∷ 2 ∷ 0 ∷ 14 ∷ 1 ∷ 3 ∷ 4 ∷ 1 ∷ 0 ∷ 12 ∷ []
+set-2 = 2 ∷ 1 ∷ 1 ∷ 4 ∷ 1 ∷ 3 ∷ 1 ∷ 1 ∷ 2 ∷ 1 ∷ 4 ∷ 2 ∷ 0 ∷ 14 ∷ 0 ∷ 1 ∷ 3 ∷ 1 ∷ 4 ∷ 1 ∷ 0 ∷ 12 ∷ 0 ∷ []
 
 set-3 : List ℕ
-set-3 = 2 ∷ 1 ∷ 0 ∷ 10 ∷ 2 ∷ 1 ∷ 1 ∷ 4 ∷ 2 ∷ 2 ∷ 1 ∷ 2 ∷ 1 ∷ 2 ∷ 3 ∷ 1 ∷ 1 ∷ 4 ∷ 3 ∷ 2 ∷ 1 ∷ 3 ∷ 0 ∷ 10 ∷ []
+set-3 = 2 ∷ 1 ∷ 0 ∷ 10 ∷ 0 ∷ 2 ∷ 1 ∷ 1 ∷ 4 ∷ 1 ∷ 2 ∷ 2 ∷ 1 ∷ 2 ∷ 1 ∷ 1 ∷ 2 ∷ 2 ∷ 3 ∷ 1 ∷ 1 ∷ 4 ∷ 1 ∷ 3 ∷ 2 ∷ 1 ∷ 3 ∷ 1 ∷ 0 ∷ 10 ∷ 0 ∷ []
 
 set-4 : List ℕ
-set-4 = 5 ∷ 1 ∷ 0 ∷ 10 ∷ 2 ∷ 1 ∷ 1 ∷ 5 ∷ 3 ∷ 1 ∷ 1 ∷ 2 ∷ 2 ∷ 2 ∷ 1 ∷ 2 ∷ 1 ∷ 3 ∷ []
+set-4 = 5 ∷ 1 ∷ 0 ∷ 10 ∷ 0 ∷ 2 ∷ 1 ∷ 1 ∷ 5 ∷ 1 ∷ 3 ∷ 1 ∷ 1 ∷ 2 ∷ 1 ∷ 2 ∷ 2 ∷ 1 ∷ 2 ∷ 1 ∷ 1 ∷ 3 ∷ 2 ∷ []
 
 -- 1: 20 [c30]; 2: 22 [s20]; 3: 21 [s20]; 4: 2 [c31 s23]; 5: 23 [s21]; 6: 23 [s22]
 set-5 : List ℕ
-set-5 = 20 ∷ 1 ∷ 0 ∷ 30 ∷ 22 ∷ 1 ∷ 1 ∷ 20 ∷ 21 ∷ 1 ∷ 1 ∷ 20 ∷ 2 ∷ 2 ∷ 0 ∷ 31 ∷ 1 ∷ 23 ∷ 23 ∷ 1 ∷ 1 ∷ 21 ∷ 23 ∷ 1 ∷ 1 ∷ 22 ∷ []
+set-5 = 20 ∷ 1 ∷ 0 ∷ 30 ∷ 0 ∷ 22 ∷ 1 ∷ 1 ∷ 20 ∷ 1 ∷ 21 ∷ 1 ∷ 1 ∷ 20 ∷ 1 ∷ 2 ∷ 2 ∷ 0 ∷ 31 ∷ 0 ∷ 1 ∷ 23 ∷ 1 ∷ 23 ∷ 1 ∷ 1 ∷ 21 ∷ 1 ∷ 23 ∷ 1 ∷ 1 ∷ 22 ∷ 1 ∷ []
 
 -- 1: 20 [c30]; 2: 21 [s20]; 3: 22 [s21]; 4: 23 [s22]; 5: 2 [c31 s23]
 set-6 : List ℕ
-set-6 = 20 ∷ 1 ∷ 0 ∷ 30 ∷ 21 ∷ 1 ∷ 1 ∷ 20 ∷ 22 ∷ 1 ∷ 1 ∷ 21 ∷ 23 ∷ 1 ∷ 1 ∷ 22 ∷ 2 ∷ 2 ∷ 0 ∷ 31 ∷ 1 ∷ 23 ∷ []
+set-6 = 20 ∷ 1 ∷ 0 ∷ 30 ∷ 0 ∷ 21 ∷ 1 ∷ 1 ∷ 20 ∷ 1 ∷ 22 ∷ 1 ∷ 1 ∷ 21 ∷ 1 ∷ 23 ∷ 1 ∷ 1 ∷ 22 ∷ 1 ∷ 2 ∷ 2 ∷ 0 ∷ 31 ∷ 0 ∷ 1 ∷ 23 ∷ 1 ∷ []
 
 -- set T with 4: 2 [c31 s22 c32]
 set-7 : List ℕ
-set-7 = 20 ∷ 1 ∷ 0 ∷ 30 ∷ 21 ∷ 1 ∷ 1 ∷ 20 ∷ 22 ∷ 1 ∷ 1 ∷ 21 ∷ 2 ∷ 3 ∷ 0 ∷ 31 ∷ 1 ∷ 22 ∷ 0 ∷ 32 ∷ []
+set-7 = 20 ∷ 1 ∷ 0 ∷ 30 ∷ 0 ∷ 21 ∷ 1 ∷ 1 ∷ 20 ∷ 1 ∷ 22 ∷ 1 ∷ 1 ∷ 21 ∷ 1 ∷ 2 ∷ 3 ∷ 0 ∷ 31 ∷ 0 ∷ 1 ∷ 22 ∷ 1 ∷ 0 ∷ 32 ∷ 0 ∷ []
 
 more : List Row
 more = row words-S (1 ∷ 5 ∷ 6 ∷ []) 2 2 [] 3
@@ -149,13 +149,13 @@ built-S10 = refl
 -- conversions 40 to 41, 41 to 42 and so on, the last link first
 chain : ℕ → List ℕ
 chain zero = []
-chain (suc n) = (41 + n) ∷ 1 ∷ 1 ∷ (40 + n) ∷ chain n
+chain (suc n) = (41 + n) ∷ 1 ∷ 1 ∷ (40 + n) ∷ 1 ∷ chain n
 
 -- number, counts
 gives : List ℕ → ℕ → ℕ → ℕ × ℕ × ℕ
 gives rules nodes edges = let b = buildGives 1 2 rules [] nodes edges 0 in (b .number, b .nodes, b .edges)
 
-chains : (gives (2 ∷ 2 ∷ 0 ∷ 31 ∷ 1 ∷ 45 ∷ chain 5) 9 160 ≡ (0, 3, 7)) × (gives (2 ∷ 2 ∷ 0 ∷ 31 ∷ 1 ∷ 46 ∷ chain 6) 9 160 ≡ (14, 0, 0))
+chains : (gives (2 ∷ 2 ∷ 0 ∷ 31 ∷ 0 ∷ 1 ∷ 45 ∷ 1 ∷ chain 5) 9 160 ≡ (0, 3, 7)) × (gives (2 ∷ 2 ∷ 0 ∷ 31 ∷ 0 ∷ 1 ∷ 46 ∷ 1 ∷ chain 6) 9 160 ≡ (14, 0, 0))
 unfolding chain gives opening
 chains = (refl, refl)
 
@@ -166,7 +166,7 @@ rooms = (refl, refl, refl, refl, refl)
 
 -- a refused build leaves zeros: bad rules, bodies that collide
 zeroed : (buildGives 1 2 (1 ∷ []) [] 2 3 1 ≡ record { number = 10; nodes = 0; edges = 0; node-words = zeros 2; edge-words = zeros 3; frame-words = zeros 1 })
-    × (buildGives 1 2 (2 ∷ 1 ∷ 0 ∷ 10 ∷ 2 ∷ 1 ∷ 0 ∷ 10 ∷ []) [] 4 40 0
+    × (buildGives 1 2 (2 ∷ 1 ∷ 0 ∷ 10 ∷ 0 ∷ 2 ∷ 1 ∷ 0 ∷ 10 ∷ 0 ∷ []) [] 4 40 0
     ≡ record { number = 11; nodes = 0; edges = 0; node-words = zeros 4; edge-words = zeros 40; frame-words = [] })
 unfolding opening
 zeroed = (refl, refl)
@@ -175,8 +175,7 @@ zeroed = (refl, refl)
 
 -- 1: 3 [c20]; 2: 2 [c21]; 3: 2 [s3 c8 s3]; 4: 3 [c5 s3 c9 s3 c6]; 5: 2 [c5 s2 c7 s2 c6]
 set-E2 : List ℕ
-set-E2 = 3 ∷ 1 ∷ 0 ∷ 20 ∷ 2 ∷ 1 ∷ 0 ∷ 21 ∷ 2 ∷ 3 ∷ 1 ∷ 3 ∷ 0 ∷ 8 ∷ 1 ∷ 3 ∷ 3 ∷ 5 ∷ 0 ∷ 5 ∷ 1 ∷ 3 ∷ 0 ∷ 9 ∷ 1 ∷ 3 ∷ 0 ∷ 6
-    ∷ 2 ∷ 5 ∷ 0 ∷ 5 ∷ 1 ∷ 2 ∷ 0 ∷ 7 ∷ 1 ∷ 2 ∷ 0 ∷ 6 ∷ []
+set-E2 = 3 ∷ 1 ∷ 0 ∷ 20 ∷ 0 ∷ 2 ∷ 1 ∷ 0 ∷ 21 ∷ 0 ∷ 2 ∷ 3 ∷ 1 ∷ 3 ∷ 1 ∷ 0 ∷ 8 ∷ 0 ∷ 1 ∷ 3 ∷ 2 ∷ 3 ∷ 5 ∷ 0 ∷ 5 ∷ 0 ∷ 1 ∷ 3 ∷ 1 ∷ 0 ∷ 9 ∷ 0 ∷ 1 ∷ 3 ∷ 2 ∷ 0 ∷ 6 ∷ 0 ∷ 2 ∷ 5 ∷ 0 ∷ 5 ∷ 0 ∷ 1 ∷ 2 ∷ 1 ∷ 0 ∷ 7 ∷ 0 ∷ 1 ∷ 2 ∷ 2 ∷ 0 ∷ 6 ∷ 0 ∷ []
 
 -- number, counts, and the frames' words
 gardened : List ℕ → List ℕ → ℕ → ℕ → ℕ → ℕ × ℕ × ℕ × List ℕ
@@ -189,7 +188,7 @@ unfolding set-E2 gardened opening
 paths = (refl, refl)
 
 -- 1: 2 [c10 s2]; 2: 2 [c10 c10 c10], c10 c10 c10 => c10 s2: without a frame it is 6, though nothing would be copied
-frameless : buildGives 1 2 (2 ∷ 2 ∷ 0 ∷ 10 ∷ 1 ∷ 2 ∷ 2 ∷ 3 ∷ 0 ∷ 10 ∷ 0 ∷ 10 ∷ 0 ∷ 10 ∷ []) (1 ∷ 3 ∷ 2 ∷ 0 ∷ 10 ∷ 0 ∷ 10 ∷ 0 ∷ 10 ∷ 0 ∷ 10 ∷ 1 ∷ 2 ∷ []) 6 80 15
+frameless : buildGives 1 2 (2 ∷ 2 ∷ 0 ∷ 10 ∷ 0 ∷ 1 ∷ 2 ∷ 1 ∷ 2 ∷ 3 ∷ 0 ∷ 10 ∷ 0 ∷ 0 ∷ 10 ∷ 0 ∷ 0 ∷ 10 ∷ 0 ∷ []) (1 ∷ 3 ∷ 2 ∷ 0 ∷ 10 ∷ 0 ∷ 10 ∷ 0 ∷ 10 ∷ 0 ∷ 10 ∷ 1 ∷ 2 ∷ []) 6 80 15
     ≡ record { number = 6; nodes = 0; edges = 0; node-words = zeros 6; edge-words = zeros 80; frame-words = zeros 15 }
 unfolding opening
 frameless = refl
@@ -199,7 +198,7 @@ frameless = refl
 stretch : ℕ → ℕ → Stretch
 stretch a n = record { start = a; length = n }
 
-bodies : (bodyGives 1 2 words-S 1 ≡ stretch 2 2) × (bodyGives 1 2 words-S 7 ≡ stretch 28 10) × (bodyGives 1 2 words-S 9 ≡ stretch 48 6) × (bodyGives 1 2 words-S 0 ≡ stretch 0 0)
+bodies : (bodyGives 1 2 words-S 1 ≡ stretch 2 3) × (bodyGives 1 2 words-S 7 ≡ stretch 35 15) × (bodyGives 1 2 words-S 9 ≡ stretch 63 9) × (bodyGives 1 2 words-S 0 ≡ stretch 0 0)
     × (bodyGives 1 2 words-S 10 ≡ stretch 0 0) × (bodyGives 2 1 words-S 1 ≡ stretch 0 0)
 unfolding stretch opening
 bodies = (refl, refl, refl, refl, refl, refl)

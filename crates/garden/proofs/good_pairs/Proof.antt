@@ -5,14 +5,13 @@ use borrow.Author.Needs.{needs}
 use denote.Ref.{now}
 use lib.ListN.{length, drop}
 use Rattle.words.specs.laws.Tests.{tests, failed, passed}
-use Rattle.rules.specs.laws.Words.{items-good-end, items-good-step}
-use Rattle.rules.specs.Rules.{goodItems}
-use Rattle.garden.specs.laws.Pairs.{pairs-are-items, pairs-odd}
+use Rattle.garden.specs.Garden.{goodPairs}
+use Rattle.garden.specs.laws.Pairs.{good-end, good-step, pairs-odd}
 use Rattle.garden.proofs.good_pairs.Statement.{statement}
 use Rattle.garden.proofs.good_pairs.Tie as tie
 
 abbrev Inv-loop : tie.InvT-loop
-Inv-loop ws i₀ i = (i ≤ length ws) × (i % 2 ≡ 0) × (goodItems (drop i ws) ≡ goodItems ws)
+Inv-loop ws i₀ i = (i ≤ length ws) × (i % 2 ≡ 0) × (goodPairs (drop i ws) ≡ goodPairs ws)
 
 abbrev μ-loop : tie.MeasureT-loop
 μ-loop ws i₀ i = length ws - i
@@ -24,7 +23,7 @@ returns-2 : tie.Need-returns-2 Inv-loop μ-loop
 returns-2 c =
     let l = c .before .before .before .loop in
     let ws = now (c .before .before .before .before .before .before .args .ws) in
-    search (tests, pairs-are-items, ← (l .inv .2), items-good-step ws (l .i) (omega (arith, l .inv .1, c .before .before .before .before .if1 .left, c .before .before .loop-test .taken)))
+    search (tests, ← (l .inv .2), good-step ws (l .i) (omega (arith, l .inv .1, c .before .before .before .before .if1 .left, c .before .before .loop-test .taken)))
 
 shared-slice-read-symbol : tie.Need-shared-slice-read-symbol Inv-loop μ-loop
 shared-slice-read-symbol c = omega (arith, c .before .before .before .before .loop .inv .1, c .before .before .before .before .before .if1 .left, c .before .before .before .loop-test .taken)
@@ -33,7 +32,7 @@ returns-3 : tie.Need-returns-3 Inv-loop μ-loop
 returns-3 c =
     let l = c .before .before .before .before .before .before .loop in
     let ws = now (c .before .before .before .before .before .before .before .before .before .args .ws) in
-    search (tests, pairs-are-items, ← (l .inv .2), items-good-step ws (l .i) (omega (arith, l .inv .1, c .before .before .before .before .before .before .before .if1 .left, c .before .before .before .before .before .loop-test .taken)), failed (c .before .symbol .ensures) (c .if3 .taken))
+    search (tests, ← (l .inv .2), good-step ws (l .i) (omega (arith, l .inv .1, c .before .before .before .before .before .before .before .if1 .left, c .before .before .before .before .before .loop-test .taken)), failed (c .before .symbol .ensures) (c .if3 .taken))
 
 loop-again : tie.Need-loop-again Inv-loop μ-loop
 loop-again c =
@@ -43,14 +42,14 @@ loop-again c =
     let t = c .before .before .before .before .before .loop-test .taken in (
       omega (arith, l .inv .1, h, t),
       omega (arith, l .inv .1),
-      search (tests, ← (l .inv .2), items-good-step ws (l .i) (omega (arith, l .inv .1, h, t)), passed (c .before .symbol .ensures) (c .if3 .left)),
+      search (tests, ← (l .inv .2), good-step ws (l .i) (omega (arith, l .inv .1, h, t)), passed (c .before .symbol .ensures) (c .if3 .left)),
     )
 
 returns-4 : tie.Need-returns-4 Inv-loop μ-loop
 returns-4 c =
     let l = c .before .loop in
     let ws = now (c .before .before .before .before .args .ws) in
-    search (pairs-are-items, ← (l .inv .2), items-good-end ws (l .i) (search needs))
+    search (← (l .inv .2), good-end ws (l .i) (search needs))
 
 pub good-pairs-spec : {M : Type 1} → statement M
 good-pairs-spec =

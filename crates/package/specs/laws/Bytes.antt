@@ -122,3 +122,12 @@ pub word-small : (bs : List ℕ) (at : ℕ) → at + 4 ≤ length bs → ((i : �
 word-small bs at h b =
     rw (word-is (drop at bs) (simp length-drop (omega arith)), getD-drop at bs 0 0, getD-drop at bs 1 0, getD-drop at bs 2 0, getD-drop at bs 3 0)
     (omega (arith, b (at + 0), b (at + 1), b (at + 2), b (at + 3)))
+
+first-small : (n : ℕ) (bs : List ℕ) → 4 * n ≤ length bs → Octets bs → Words (firstWords n bs)
+unfolding firstWords
+first-small zero bs h a = tt
+first-small (suc n) bs h a =
+    (word-small bs 0 (omega arith) (octet-at bs a), first-small n (drop 4 bs) (omega (arith, length-drop 4 bs)) (all-parts (λ b. b < 256) 4 bs a .1))
+
+pub words-small : (bs : List ℕ) → Octets bs → Words (wordsOf bs)
+words-small bs a = first-small (length bs / 4) bs (omega arith) a

@@ -1,4 +1,4 @@
--- What is read has no more words than a quarter of the bytes.
+-- What is read has no more words than the bytes allow: a quarter of them, or three eighths, since an old rule has three words for every two.
 use Prim.Native.Nat.{ℕ, zero, suc, _+_, _*_, _≤_}
 use mathlib.Core.Path.{_≡_, ap, _∙_}
 use mathlib.Core.Bool.{Bool, true, false}
@@ -10,9 +10,10 @@ use Rattle.words.specs.Counted.{counted}
 use Rattle.words.specs.Outcome.{ok, pick}
 use Rattle.words.specs.laws.Tests.{by-test}
 use Rattle.package.specs.Bytes.{wordsOf}
-use Rattle.package.specs.Package.{Package, nothing, typecodes, oneRule, statement, theEnd, recordSize, kindOf, bodyOf, putWords, ended, scan, says}
+use Rattle.package.specs.Package.{Package, nothing, typecodes, oneRule, oldRule, statement, theEnd, recordSize, kindOf, bodyOf, renewed, putWords, ended, scan, says}
 use Rattle.package.specs.laws.Bytes.{words-length}
 use Rattle.package.specs.laws.Records.{Fits, faultless, body-length, scan-record, scan-clear, ended-ok}
+use Rattle.package.specs.laws.Old.{renewed-most}
 
 pub counted-last : (ls : List (List ℕ)) (l : List ℕ) → counted (ls ++ l ∷ []) ≡ (counted ls ++ length l ∷ []) ++ l
 unfolding counted
@@ -21,9 +22,9 @@ counted-last (k ∷ ls) l =
     ap (λ (r : List ℕ). length k ∷ r)
     (ap (λ (r : List ℕ). k ++ r) (counted-last ls l) ∙ simp append-assoc)
 
--- each word was read from four bytes
+-- three words of rules were read from eight bytes or more, any other word from four
 pub record Few (q : Package) (at : ℕ) : Type 0 where
-  pub rules : 4 * length (q .rules) ≤ at
+  pub rules : 8 * length (q .rules) ≤ 3 * at
   pub statements : 4 * length (q .statements) ≤ at
   pub words : 4 * length (counted (q .statements)) ≤ at
 
@@ -40,6 +41,8 @@ few-more q kind body at size f h =
     (λ _. record { rules = omega (arith, f .rules); statements = omega (arith, f .statements); words = omega (arith, f .words) })
     λ _. by-test (λ p. Few p (at + size)) (eqb kind oneRule)
     (λ _. record { rules = omega (arith, f .rules, length-append (q .rules) ws); statements = omega (arith, f .statements); words = omega (arith, f .words) })
+    λ _. by-test (λ p. Few p (at + size)) (eqb kind oldRule)
+    (λ _. record { rules = omega (arith, f .rules, length-append (q .rules) (renewed ws), renewed-most ws); statements = omega (arith, f .statements); words = omega (arith, f .words) })
     λ _. by-test (λ p. Few p (at + size)) (eqb kind statement)
     (λ _. record { rules = omega (arith, f .rules); statements = omega (arith, f .statements, length-append (q .statements) (ws ∷ [])); words = omega (arith, f .words, long) })
     λ _. record { rules = omega (arith, f .rules); statements = omega (arith, f .statements); words = omega (arith, f .words) }

@@ -1,5 +1,5 @@
 -- What a read gives back: by its refusals, and without one.
-use Prim.Native.Nat.{ℕ, zero, suc, _/_, _≤_}
+use Prim.Native.Nat.{ℕ, zero, suc, _*_, _/_, _≤_}
 use mathlib.Core.Path.{_≡_, refl, sym, ap, _∙_}
 use mathlib.Core.Bool.{Bool, true, false, false≢true, not}
 use mathlib.Core.List.{List, [], _∷_}
@@ -138,7 +138,7 @@ module _ (bs : List ℕ) (n m : ℕ) where
   pub lengths-kept-read : (length (readGives bs n m .rule-words) ≡ n) × (length (readGives bs n m .statement-words) ≡ m)
   lengths-kept-read = kept-by _ refl
 
--- ---- read-enough: no slice needs more than a word for every four bytes
+-- ---- read-enough: rules need no more than three words for every eight bytes, statements no more than one for every four
 
 enough-fault : (a b d : Bool) → a ≡ true → b ≡ true → firstFault (demand a noRoom ∷ demand b noRoom ∷ demand d badRules ∷ []) ≢ noRoom
 unfolding firstFault
@@ -152,7 +152,7 @@ unfolding readAfter
 after-number n m q zero = refl
 after-number n m q (suc k) = refl
 
-enough-by : (bs : List ℕ) (n m : ℕ) (x : Res Refusal Package) → says bs ≡ x → Numbered x → length bs / 4 ≤ n → length bs / 4 ≤ m → readBy n m x .number ≢ noRoom
+enough-by : (bs : List ℕ) (n m : ℕ) (x : Res Refusal Package) → says bs ≡ x → Numbered x → 3 * length bs / 8 ≤ n → length bs / 4 ≤ m → readBy n m x .number ≢ noRoom
 unfolding readBy
 enough-by bs n m (no y) e k h j = λ z. omega arith
 enough-by bs n m (ok q) e k h j =
@@ -162,6 +162,6 @@ enough-by bs n m (ok q) e k h j =
     λ z. enough-fault (not (ltb n (length (q .rules)))) (not (ltb m (length (counted (q .statements))))) (rulesGood (q .provable) (q .logic) (q .rules))
     (ap not s) (ap not t) (sym (after-number n m q (firstFault (readDemands n m q))) ∙ z)
 
-pub read-enough : (bs : List ℕ) (n m : ℕ) → length bs / 4 ≤ n → length bs / 4 ≤ m → readGives bs n m .number ≢ noRoom
+pub read-enough : (bs : List ℕ) (n m : ℕ) → 3 * length bs / 8 ≤ n → length bs / 4 ≤ m → readGives bs n m .number ≢ noRoom
 unfolding readGives
 read-enough bs n m h k = enough-by bs n m (says bs) refl (says-numbered bs) h k

@@ -6,15 +6,15 @@ use mathlib.Core.List.{List, [], _∷_, _++_, append-assoc}
 use mathlib.Core.Logic.{_≢_}
 use native.Mathlib.Omega.{arith}
 use lib.Dec.{eqb, ltb, leb}
-use lib.ListN.{length, take, drop, length-append, length-take, length-drop, take-append-drop}
+use lib.ListN.{length, getD, take, drop, length-append, length-take, length-drop, take-append-drop}
 use lib.Seq.{take-at, drop-at, drop-drop}
 use borrow.Author.Tests.{ltb-false, leb-true, le-ltb, le-leb, eq-eqb, ne-eqb, eqb-true, not-true}
 use Rattle.words.specs.Numbers.{cutShort, unknownKind, wrongSize, wrongOrder}
-use Rattle.words.specs.Outcome.{Res, ok, pick, demand, firstFault}
+use Rattle.words.specs.Outcome.{Res, ok, no, pick, Demand, demand, firstFault}
 use Rattle.words.specs.laws.Faults.{clear}
 use Rattle.words.specs.laws.Tests.{and-l, and-r}
 use Rattle.package.specs.Bytes.{little, bytesOf, wordsOf, wordBytes}
-use Rattle.package.specs.Package.{Package, typecodes, oneRule, statement, theEnd, lengthOf, recordSize, kindOf, bodyOf, whole, known, sized, inOrder, recordDemands, Refusal, putWords, ended, afterHead, scan, recordBytes, mostWritten}
+use Rattle.package.specs.Package.{Package, typecodes, oneRule, oldRule, statement, theEnd, lengthOf, recordSize, kindOf, bodyOf, whole, known, ruleSized, sized, inOrder, recordDemands, Refusal, refusal, putWords, ended, afterHead, scan, recordBytes, mostWritten}
 use Rattle.package.specs.laws.Bytes.{Octets, octet-at, Words, all-parts, bytes-length, words-bytes, words-length, half-back, word-back, words-back, front-back, bytes-back, word-small}
 
 -- ---- a record that is written
@@ -28,6 +28,12 @@ record-length kind ws =
     let n = 2 + 4 * length ws in
     ap length (record-parts kind ws) ∙ length-append (bytesOf 4 n) (bytesOf 2 kind ++ wordBytes ws)
     ∙ omega (arith, bytes-length 4 n, length-append (bytesOf 2 kind) (wordBytes ws), bytes-length 2 kind, words-bytes ws)
+
+pub record-size : (kind : ℕ) (ws : List ℕ) → length ws ≤ mostWritten → recordSize (recordBytes kind ws) ≡ length (recordBytes kind ws)
+record-size kind ws h =
+    let n = 2 + 4 * length ws in
+    let e : take 4 (recordBytes kind ws) ≡ bytesOf 4 n = ap (λ (l : List ℕ). take 4 l) (record-parts kind ws) ∙ take-at (bytesOf 4 n) _ 4 (bytes-length 4 n) in
+    omega (arith, ap little e, word-back n (omega arith), record-length kind ws)
 
 -- ---- a record that stands first
 
@@ -74,11 +80,30 @@ faultless last bs h =
     let five = clear (inOrder last (kindOf bs)) wrongOrder [] (omega arith) (four .others) in
     record { fits = whole-fits bs (two .passed); named = three .passed; body-sized = four .passed; ordered = five .passed }
 
-no-fault : (last : ℕ) (bs : List ℕ) → Faultless last bs → firstFault (recordDemands last bs) ≡ 0
+-- what is left to try at a whole record, by its kind and its body
+abbrev pub laterDemands : ℕ → ℕ → List ℕ → List Demand
+laterDemands last kind body = demand (known kind) unknownKind ∷ demand (sized kind body) wrongSize ∷ demand (inOrder last kind) wrongOrder ∷ []
+
+pub later-fault : (last : ℕ) (bs : List ℕ) → Fits bs → firstFault (recordDemands last bs) ≡ firstFault (laterDemands last (kindOf bs) (bodyOf bs))
 unfolding firstFault
-no-fault last bs f =
-    let h : length bs ≢ 0 = λ e. omega (arith, f .fits .head, f .fits .inside) in
-    rw (ne-eqb (length bs) 0 h, fits-whole bs (f .fits), f .named, f .body-sized, f .ordered)
+later-fault last bs f =
+    let h : length bs ≢ 0 = λ e. omega (arith, f .head, f .inside) in
+    rw (ne-eqb (length bs) 0 h, fits-whole bs f)
+
+-- a rule's words have the size that they say
+pub rule-sized : (width : ℕ) (ws : List ℕ) → Words ws → length ws ≡ 2 + width * getD ws 1 0 → ruleSized width (wordBytes ws) ≡ true
+unfolding ruleSized
+rule-sized width ws w e =
+    let n = 2 + width * getD ws 1 0 in
+    rw (words-back ws w, le-ltb (length (wordBytes ws)) 8 (omega (arith, words-bytes ws)), eq-eqb (length (wordBytes ws)) (4 * n) (omega (arith, words-bytes ws)))
+
+-- a body that passed has the size that it says
+pub rule-size : (width : ℕ) (body : List ℕ) → ruleSized width body ≡ true → (8 ≤ length body) × (length body ≡ 4 * (2 + width * getD (wordsOf body) 1 0))
+unfolding ruleSized
+rule-size width body e =
+    let t = ltb (length body) 8 in
+    let size = 4 * (2 + width * getD (wordsOf body) 1 0) in
+    (ltb-false (length body) 8 (not-true t (and-l (not t) (eqb (length body) size) e)), eqb-true (length body) size (and-r (not t) (eqb (length body) size) e))
 
 pub typecodes-sized : (kind : ℕ) (body : List ℕ) → kind ≡ typecodes → sized kind body ≡ true → length body ≡ 8
 unfolding sized
@@ -87,9 +112,9 @@ typecodes-sized kind body e s = eqb-true (length body) 8 (rw (eq-eqb kind typeco
 -- ---- what a scan makes of it
 
 -- other records, the end among them, say nothing more
-pub put-nothing : (q : Package) (kind : ℕ) (ws : List ℕ) → kind ≢ typecodes → kind ≢ oneRule → kind ≢ statement → putWords q kind ws ≡ q
+pub put-nothing : (q : Package) (kind : ℕ) (ws : List ℕ) → kind ≢ typecodes → kind ≢ oneRule → kind ≢ oldRule → kind ≢ statement → putWords q kind ws ≡ q
 unfolding putWords
-put-nothing q kind ws a b c = rw (ne-eqb kind typecodes a, ne-eqb kind oneRule b, ne-eqb kind statement c)
+put-nothing q kind ws a b c d = rw (ne-eqb kind typecodes a, ne-eqb kind oneRule b, ne-eqb kind oldRule c, ne-eqb kind statement d)
 
 pub after-record : (next : ℕ → ℕ → Package → List ℕ → Res Refusal Package) (k : ℕ) (q : Package) (bs : List ℕ) (b : Bool) → eqb (kindOf bs) theEnd ≡ b
     → let q′ = putWords q (kindOf bs) (wordsOf (bodyOf bs)) in
@@ -97,7 +122,7 @@ pub after-record : (next : ℕ → ℕ → Package → List ℕ → Res Refusal 
 unfolding afterHead
 after-record next k q bs true e =
     let z = eqb-true (kindOf bs) theEnd e in
-    rw (e, afterHead, put-nothing q (kindOf bs) (wordsOf (bodyOf bs)) (λ h. omega arith) (λ h. omega arith) (λ h. omega arith))
+    rw (e, afterHead, put-nothing q (kindOf bs) (wordsOf (bodyOf bs)) (λ h. omega arith) (λ h. omega arith) (λ h. omega arith) (λ h. omega arith))
 after-record next k q bs false e = rw (e, afterHead)
 
 pub scan-record : (f k last : ℕ) (q : Package) (bs : List ℕ) → firstFault (recordDemands last bs) ≡ 0
@@ -106,6 +131,20 @@ pub scan-record : (f k last : ℕ) (q : Package) (bs : List ℕ) → firstFault 
     ≡ scan (suc f) k last q bs
 unfolding scan
 scan-record f k last q bs h = rw h (after-record (λ k last p bs. scan f k last p bs) k q bs (eqb (kindOf bs) theEnd) refl)
+
+-- a record with a fault stops it
+no-record : (k last : ℕ) (q : Package) (bs : List ℕ) (n : ℕ) → bs ≡ [] → firstFault (recordDemands last bs) ≡ n
+    → scan 0 k last q bs ≡ no (refusal n k)
+unfolding scan firstFault
+no-record k last q bs n e h = let z : wrongOrder ≡ n = rw e at h in rw (← z)
+
+pub scan-refused : (f k last : ℕ) (q : Package) (bs : List ℕ) (n : ℕ) → length bs ≤ f → firstFault (recordDemands last bs) ≡ n → 1 ≤ n
+    → scan f k last q bs ≡ no (refusal n k)
+unfolding scan afterHead
+scan-refused zero k last q [] n l h p = no-record k last q [] n refl h
+scan-refused zero k last q (b ∷ bs) n l h p = absurd (omega arith)
+scan-refused (suc f) k last q bs zero l h p = absurd (omega arith)
+scan-refused (suc f) k last q bs (suc n) l h p = rw h
 
 -- a scan that goes through found no fault
 clear-by : (next : ℕ → ℕ → Package → List ℕ → Res Refusal Package) (k : ℕ) (p q : Package) (bs : List ℕ) (n : ℕ) → afterHead next k p bs n ≡ ok q → n ≡ 0
@@ -117,7 +156,13 @@ pub scan-clear : (f k last : ℕ) (p q : Package) (bs : List ℕ) → scan (suc 
 unfolding scan
 scan-clear f k last p q bs e = clear-by (λ k last p bs. scan f k last p bs) k p q bs (firstFault (recordDemands last bs)) e
 
--- and left no byte after the end
+-- after the end a byte is left, or none is
+pub ended-more : (k : ℕ) (q : Package) (bs : List ℕ) → 1 ≤ length bs → ended k q bs ≡ no (refusal wrongOrder k)
+unfolding ended
+ended-more k q [] h = absurd (omega arith)
+ended-more k q (b ∷ bs) h = refl
+
+-- a scan that goes through left none
 pub ended-ok : (k : ℕ) (p q : Package) (bs : List ℕ) → ended k p bs ≡ ok q → (bs ≡ []) × (q ≡ p)
 unfolding ended
 ended-ok k p q [] e = let z : p ≡ q = cc in (refl, sym z)
@@ -147,7 +192,7 @@ module _ (kind : ℕ) (ws rest : List ℕ) (k : kind < 2 ^ 16) (n : length ws �
   after-length : drop 4 row ≡ bytesOf 2 kind ++ (wordBytes ws ++ rest)
   after-length = ap (λ (l : List ℕ). drop 4 l) (row-parts kind ws rest) ∙ drop-at (bytesOf 4 (2 + 4 * length ws)) _ 4 (bytes-length 4 (2 + 4 * length ws))
 
-  row-kind : kindOf row ≡ kind
+  pub row-kind : kindOf row ≡ kind
   row-kind = ap (λ (l : List ℕ). little (take 2 l)) after-length
       ∙ ap little (take-at (bytesOf 2 kind) (wordBytes ws ++ rest) 2 (bytes-length 2 kind)) ∙ half-back kind k
 
@@ -158,16 +203,26 @@ module _ (kind : ℕ) (ws rest : List ℕ) (k : kind < 2 ^ 16) (n : length ws �
   row-body = ap (λ (l : List ℕ). take (recordSize row - 6) l) after-kind
       ∙ take-at (wordBytes ws) rest (recordSize row - 6) (omega (arith, words-bytes ws, row-size))
 
-  row-rest : drop (recordSize row) row ≡ rest
+  pub row-rest : drop (recordSize row) row ≡ rest
   row-rest = drop-at (recordBytes kind ws) rest (recordSize row) (omega (arith, record-length kind ws, row-size))
 
+  row-fits : Fits row
+  row-fits = record { head = omega (arith, row-size); inside = omega (arith, row-size, length-append (recordBytes kind ws) rest, record-length kind ws) }
+
+  -- its order is all that may be wrong
+  row-order : (last : ℕ) (o : Bool) → known kind ≡ true → sized kind (wordBytes ws) ≡ true → inOrder last kind ≡ o
+      → firstFault (recordDemands last row) ≡ firstFault (demand o wrongOrder ∷ [])
+  unfolding firstFault
+  row-order last o a b c = later-fault last row row-fits ∙ rw (row-kind, row-body, a, b, c)
+
   row-clear : (last : ℕ) → known kind ≡ true → sized kind (wordBytes ws) ≡ true → inOrder last kind ≡ true → firstFault (recordDemands last row) ≡ 0
-  row-clear last a b c = no-fault last row (record {
-    fits = record { head = omega (arith, row-size); inside = omega (arith, row-size, length-append (recordBytes kind ws) rest, record-length kind ws) };
-    named = rw row-kind a;
-    body-sized = rw (row-kind, row-body) b;
-    ordered = rw row-kind c;
-  })
+  unfolding firstFault
+  row-clear last a b c = row-order last true a b c
+
+  pub scan-disordered : (f m last : ℕ) (q : Package) → length row ≤ f → known kind ≡ true → sized kind (wordBytes ws) ≡ true → inOrder last kind ≡ false
+      → scan f m last q row ≡ no (refusal wrongOrder m)
+  unfolding firstFault
+  scan-disordered f m last q h a b c = scan-refused f m last q row wrongOrder h (row-order last false a b c) (omega arith)
 
   pub scan-written : (f m last : ℕ) (q : Package) → known kind ≡ true → sized kind (wordBytes ws) ≡ true → inOrder last kind ≡ true
       → scan (suc f) m last q row ≡ pick (eqb kind theEnd) (ended (suc m) (putWords q kind ws) rest) (scan f (suc m) kind (putWords q kind ws) rest)

@@ -33,14 +33,22 @@ returns-3 c =
     let body = now (c .before .before .before .before .before .before .before .before .before .args .body) in
     search (tests, ← (l .inv .1), items-good-step body (l .i) (search needs), failed (c .before .symbol .ensures) (c .if3 .taken))
 
-loop-again : tie.Need-loop-again Inv-loop μ-loop
-loop-again c =
-    let l = c .before .before .before .before .before .before .before .loop in
-    let body = now (c .before .before .before .before .before .before .before .before .before .args .body) in
-    (search needs, search (tests, ← (l .inv .1), items-good-step body (l .i) (search needs), passed (c .before .symbol .ensures) (c .if3 .left)))
-
 returns-4 : tie.Need-returns-4 Inv-loop μ-loop
 returns-4 c =
+    let l = c .before .before .before .before .before .before .before .before .before .before .loop in
+    let body = now (c .before .before .before .before .before .before .before .before .before .before .before .before .args .body) in
+    let s = passed (c .before .before .before .before .symbol .ensures) (c .before .before .before .if3 .left) in
+    search (tests, ← (l .inv .1), items-good-step body (l .i) (search needs), s, failed (c .before .third .ensures) (c .if4 .taken))
+
+loop-again : tie.Need-loop-again Inv-loop μ-loop
+loop-again c =
+    let l = c .before .before .before .before .before .before .before .before .before .before .loop in
+    let body = now (c .before .before .before .before .before .before .before .before .before .before .before .before .args .body) in
+    let s = passed (c .before .before .before .before .symbol .ensures) (c .before .before .before .if3 .left) in
+    (search needs, search (tests, ← (l .inv .1), items-good-step body (l .i) (search needs), s, passed (c .before .third .ensures) (c .if4 .left)))
+
+returns-5 : tie.Need-returns-5 Inv-loop μ-loop
+returns-5 c =
     let l = c .before .loop in
     let body = now (c .before .before .before .args .body) in
     search (← (l .inv .1), items-good-end body (l .i) (search needs))
@@ -64,5 +72,10 @@ good-items-spec =
     returns-3
     (λ c. search needs)
     (λ c. search needs)
+    (λ c. search needs)
+    (λ c κs. search needs)
+    returns-4
+    (λ c. search needs)
+    (λ c. search needs)
     loop-again
-    returns-4)
+    returns-5)

@@ -4,7 +4,7 @@ use borrow.Author.Needs.{needs}
 use denote.Ref.{now}
 use lib.ListN.{getD}
 use Rattle.words.specs.laws.Tests.{tests, failed, passed}
-use Rattle.rules.specs.Rules.{goodRule, goodHead, goodItems, bodyWords}
+use Rattle.rules.specs.Rules.{goodRule, goodHead, goodBody, bodyWords}
 use Rattle.rules.proofs.good_rule.Statement.{statement}
 use Rattle.rules.proofs.good_rule.Tie as tie
 
@@ -28,13 +28,13 @@ returns-3 c = search (tests, ← (c .before .size-of .ensures), head (c .before 
 -- the body's words, by the size that was computed
 body : (c : tie.Else4) →
     let st = c .before .before .before .before .before .before .before .before .before .before .before in
-    goodItems (bodyWords (now (st .args .s))) ≡ true
-body c = rw (c .before .before .before .before .size-of .ensures) at (passed (c .before .good-items .ensures) (c .if4 .left))
+    goodBody (bodyWords (now (st .args .s))) ≡ true
+body c = rw (c .before .before .before .before .size-of .ensures) at (passed (c .before .good-body .ensures) (c .if4 .left))
 
 returns-4 : tie.Need-returns-4
 unfolding goodRule
 returns-4 c =
-    search (tests, ← (c .before .before .before .before .size-of .ensures), head (c .before .before .before .before .before), failed (c .before .good-items .ensures) (c .if4 .taken))
+    search (tests, ← (c .before .before .before .before .size-of .ensures), head (c .before .before .before .before .before), failed (c .before .good-body .ensures) (c .if4 .taken))
 
 returns-5 : tie.Need-returns-5
 unfolding goodRule

@@ -8,7 +8,7 @@ use Rattle.rules.proofs.item_in.Statement.{statement}
 use Rattle.rules.proofs.item_in.Tie as tie
 
 -- the item stands within the body
-inside : (st : tie.Start) → itemWidth * st .args .k + 1 < length (now (st .args .body))
+inside : (st : tie.Start) → itemWidth * st .args .k + 2 < length (now (st .args .body))
 inside st = item-within (now (st .args .body)) (st .args .k) (st .pre)
 
 returns : tie.Need-returns

@@ -5,7 +5,7 @@ use mathlib.Core.List.{List, [], _∷_, _++_}
 use mathlib.Core.Option.{none, some}
 use Prim.Native.Nat.{ℕ, zero, suc}
 use Rattle.words.specs.Limits.{mostRules}
-use Rattle.rules.specs.Rules.{con, slot, theRules, ruleAt, slots, source, rulesGood, Stretch, noStretch, stretchFrom, cut, reading}
+use Rattle.rules.specs.Rules.{con, slot, variables, theRules, ruleAt, slots, source, rulesGood, Stretch, noStretch, stretchFrom, cut, reading}
 use Rattle.rules.specs.Sheet.{words-S, words-S10, words-T, words-U, words-V, words-W, rules-S, sets}
 
 record Case : Type 0 where
@@ -19,7 +19,7 @@ plain ws = record { provable = 1; logic = 2; words = ws }
 
 -- with other typecodes and one good rule
 abbrev codes : ℕ → ℕ → Case
-codes p l = record { provable = p; logic = l; words = 3 ∷ 1 ∷ 0 ∷ 10 ∷ [] }
+codes p l = record { provable = p; logic = l; words = 3 ∷ 1 ∷ 0 ∷ 10 ∷ 0 ∷ [] }
 
 unfoldable judged : Bool → List Case → Bool
 judged true [] = true
@@ -30,12 +30,17 @@ judged false (c ∷ cs) = not (rulesGood (c .provable) (c .logic) (c .words)) &&
 -- n constants
 unfoldable constants : ℕ → List ℕ
 constants zero = []
-constants (suc n) = 0 ∷ 10 ∷ constants n
+constants (suc n) = 0 ∷ 10 ∷ 0 ∷ constants n
+
+-- n slots, each with a variable of its own
+unfoldable slotted : ℕ → List ℕ
+slotted zero = []
+slotted (suc n) = 1 ∷ 4 ∷ suc n ∷ slotted n
 
 -- n rules of one constant
 unfoldable rules : ℕ → List ℕ
 rules zero = []
-rules (suc n) = 3 ∷ 1 ∷ 0 ∷ 10 ∷ rules n
+rules (suc n) = 3 ∷ 1 ∷ 0 ∷ 10 ∷ 0 ∷ rules n
 
 unfoldable good : List Case
 good =
@@ -43,32 +48,43 @@ good =
     -- none at all
     ∷ plain []
     -- each limit itself
-    ∷ plain (65535 ∷ 1 ∷ 0 ∷ 65535 ∷ []) ∷ plain (65535 ∷ 1 ∷ 1 ∷ 1 ∷ []) ∷ plain (3 ∷ 32 ∷ constants 32)
+    ∷ plain (65535 ∷ 1 ∷ 0 ∷ 65535 ∷ 0 ∷ []) ∷ plain (65535 ∷ 1 ∷ 1 ∷ 1 ∷ 65535 ∷ []) ∷ plain (3 ∷ 32 ∷ constants 32)
+    ∷ plain (3 ∷ 32 ∷ slotted 32)
     ∷ codes 65535 1 ∷ codes 1 65535 ∷ plain (rules 2048)
     -- one slot that is the result, but not alone
-    ∷ plain (3 ∷ 2 ∷ 1 ∷ 3 ∷ 1 ∷ 3 ∷ [])
+    ∷ plain (3 ∷ 2 ∷ 1 ∷ 3 ∷ 1 ∷ 1 ∷ 3 ∷ 2 ∷ [])
     -- the result is a constant
-    ∷ plain (3 ∷ 1 ∷ 0 ∷ 3 ∷ [])
+    ∷ plain (3 ∷ 1 ∷ 0 ∷ 3 ∷ 0 ∷ [])
+    -- variables in any order, and one that is a typecode or a constant elsewhere
+    ∷ plain (3 ∷ 3 ∷ 1 ∷ 4 ∷ 9 ∷ 0 ∷ 10 ∷ 0 ∷ 1 ∷ 4 ∷ 10 ∷ []) ∷ plain (3 ∷ 2 ∷ 1 ∷ 4 ∷ 5 ∷ 1 ∷ 5 ∷ 4 ∷ [])
+    -- one variable in two rules, with two typecodes
+    ∷ plain (3 ∷ 1 ∷ 1 ∷ 4 ∷ 7 ∷ 3 ∷ 1 ∷ 1 ∷ 5 ∷ 7 ∷ [])
     ∷ []
 
 unfoldable bad : List Case
 bad =
     -- the result: 0, past the symbols, the provable typecode
-    plain (0 ∷ 1 ∷ 0 ∷ 10 ∷ []) ∷ plain (65536 ∷ 1 ∷ 0 ∷ 10 ∷ []) ∷ plain (1 ∷ 1 ∷ 0 ∷ 10 ∷ [])
+    plain (0 ∷ 1 ∷ 0 ∷ 10 ∷ 0 ∷ []) ∷ plain (65536 ∷ 1 ∷ 0 ∷ 10 ∷ 0 ∷ []) ∷ plain (1 ∷ 1 ∷ 0 ∷ 10 ∷ 0 ∷ [])
     -- the body's length
     ∷ plain (3 ∷ 0 ∷ []) ∷ plain (3 ∷ 33 ∷ constants 33)
     -- a kind
-    ∷ plain (3 ∷ 1 ∷ 2 ∷ 10 ∷ [])
+    ∷ plain (3 ∷ 1 ∷ 2 ∷ 10 ∷ 1 ∷ [])
     -- a constant, a slot's typecode
-    ∷ plain (3 ∷ 1 ∷ 0 ∷ 0 ∷ []) ∷ plain (3 ∷ 1 ∷ 0 ∷ 65536 ∷ []) ∷ plain (3 ∷ 1 ∷ 1 ∷ 0 ∷ []) ∷ plain (3 ∷ 1 ∷ 1 ∷ 65536 ∷ [])
+    ∷ plain (3 ∷ 1 ∷ 0 ∷ 0 ∷ 0 ∷ []) ∷ plain (3 ∷ 1 ∷ 0 ∷ 65536 ∷ 0 ∷ []) ∷ plain (3 ∷ 1 ∷ 1 ∷ 0 ∷ 1 ∷ []) ∷ plain (3 ∷ 1 ∷ 1 ∷ 65536 ∷ 1 ∷ [])
+    -- a constant's third word, a slot's variable
+    ∷ plain (3 ∷ 1 ∷ 0 ∷ 10 ∷ 1 ∷ []) ∷ plain (3 ∷ 1 ∷ 1 ∷ 4 ∷ 0 ∷ []) ∷ plain (3 ∷ 1 ∷ 1 ∷ 4 ∷ 65536 ∷ [])
     -- not in the first item
-    ∷ plain (3 ∷ 2 ∷ 0 ∷ 10 ∷ 2 ∷ 10 ∷ []) ∷ plain (3 ∷ 2 ∷ 0 ∷ 10 ∷ 0 ∷ 0 ∷ [])
+    ∷ plain (3 ∷ 2 ∷ 0 ∷ 10 ∷ 0 ∷ 2 ∷ 10 ∷ 1 ∷ []) ∷ plain (3 ∷ 2 ∷ 0 ∷ 10 ∷ 0 ∷ 0 ∷ 0 ∷ 0 ∷ []) ∷ plain (3 ∷ 2 ∷ 0 ∷ 10 ∷ 0 ∷ 0 ∷ 10 ∷ 1 ∷ [])
     -- a conversion with equal ends
-    ∷ plain (3 ∷ 1 ∷ 1 ∷ 3 ∷ [])
-    -- a word left over, a body cut short, a word alone
-    ∷ plain (words-S ++ 2 ∷ []) ∷ plain (3 ∷ 2 ∷ 0 ∷ 10 ∷ 0 ∷ []) ∷ plain (3 ∷ 2 ∷ 0 ∷ 10 ∷ []) ∷ plain (3 ∷ [])
+    ∷ plain (3 ∷ 1 ∷ 1 ∷ 3 ∷ 1 ∷ []) ∷ plain (3 ∷ 1 ∷ 1 ∷ 3 ∷ 7 ∷ [])
+    -- one variable in two slots: of one typecode, of two, with an item between, not in the first item
+    ∷ plain (2 ∷ 2 ∷ 1 ∷ 3 ∷ 7 ∷ 1 ∷ 3 ∷ 7 ∷ []) ∷ plain (2 ∷ 2 ∷ 1 ∷ 3 ∷ 7 ∷ 1 ∷ 4 ∷ 7 ∷ [])
+    ∷ plain (2 ∷ 3 ∷ 1 ∷ 3 ∷ 7 ∷ 0 ∷ 8 ∷ 0 ∷ 1 ∷ 3 ∷ 7 ∷ []) ∷ plain (2 ∷ 3 ∷ 1 ∷ 3 ∷ 5 ∷ 1 ∷ 3 ∷ 7 ∷ 1 ∷ 3 ∷ 7 ∷ [])
+    -- a word left over, a body cut short, a word alone, items of two words
+    ∷ plain (words-S ++ 2 ∷ []) ∷ plain (3 ∷ 2 ∷ 0 ∷ 10 ∷ 0 ∷ 0 ∷ 10 ∷ []) ∷ plain (3 ∷ 2 ∷ 0 ∷ 10 ∷ 0 ∷ 0 ∷ []) ∷ plain (3 ∷ 2 ∷ 0 ∷ 10 ∷ 0 ∷ [])
+    ∷ plain (3 ∷ []) ∷ plain (3 ∷ 1 ∷ 0 ∷ 10 ∷ [])
     -- in the last rule
-    ∷ plain (words-S ++ 1 ∷ 1 ∷ 0 ∷ 10 ∷ [])
+    ∷ plain (words-S ++ 1 ∷ 1 ∷ 0 ∷ 10 ∷ 0 ∷ []) ∷ plain (words-S ++ 2 ∷ 2 ∷ 1 ∷ 3 ∷ 1 ∷ 1 ∷ 3 ∷ 1 ∷ [])
     -- one rule too many
     ∷ plain (rules 2049)
     -- the typecodes
@@ -76,7 +92,7 @@ bad =
     ∷ []
 
 good-words : judged true good ≡ true
-unfolding judged good constants rules reading sets
+unfolding judged good constants slotted rules reading sets
 good-words = refl
 
 bad-words : judged false bad ≡ true
@@ -88,6 +104,17 @@ read-S : theRules words-S ≡ rules-S
 unfolding reading sets
 read-S = refl
 
+-- the variables of a rule are no part of what is read
+read-any : theRules (2 ∷ 2 ∷ 0 ∷ 10 ∷ 0 ∷ 1 ∷ 2 ∷ 5 ∷ []) ≡ theRules (2 ∷ 2 ∷ 0 ∷ 10 ∷ 0 ∷ 1 ∷ 2 ∷ 6 ∷ [])
+unfolding reading
+read-any = refl
+
+-- those of rules 1 and 7
+variables-S : variables (cut words-S (stretchFrom mostRules 0 words-S 1)) ∷ variables (cut words-S (stretchFrom mostRules 0 words-S 7)) ∷ []
+    ≡ [] ∷ (1 ∷ 2 ∷ []) ∷ []
+unfolding reading sets
+variables-S = refl
+
 abbrev body-S : ℕ → Stretch
 body-S n = stretchFrom mostRules 0 words-S n
 
@@ -96,11 +123,11 @@ stretch a n = record { start = a; length = n }
 
 -- rules 1, 7 and 9, and three numbers that name no rule
 stretches-S : body-S 1 ∷ body-S 7 ∷ body-S 9 ∷ body-S 0 ∷ body-S 10 ∷ body-S 2049 ∷ []
-    ≡ stretch 2 2 ∷ stretch 28 10 ∷ stretch 48 6 ∷ noStretch ∷ noStretch ∷ noStretch ∷ []
+    ≡ stretch 2 3 ∷ stretch 35 15 ∷ stretch 63 9 ∷ noStretch ∷ noStretch ∷ noStretch ∷ []
 unfolding reading sets
 stretches-S = refl
 
-cut-S : cut words-S (body-S 7) ≡ 0 ∷ 5 ∷ 1 ∷ 2 ∷ 0 ∷ 7 ∷ 1 ∷ 2 ∷ 0 ∷ 6 ∷ []
+cut-S : cut words-S (body-S 7) ≡ 0 ∷ 5 ∷ 0 ∷ 1 ∷ 2 ∷ 1 ∷ 0 ∷ 7 ∷ 0 ∷ 1 ∷ 2 ∷ 2 ∷ 0 ∷ 6 ∷ 0 ∷ []
 unfolding reading sets
 cut-S = refl
 

@@ -7,7 +7,7 @@ use lib.Dec.{ltb, eqb}
 use lib.ListN.{length}
 use Rattle.words.specs.Limits.{mostRules}
 use Rattle.words.specs.laws.Tests.{and-l, and-r}
-use Rattle.rules.specs.Rules.{Item, con, slot, Rule, bodyWords, restOf, itemOf, itemsOf, ruleOf, rulesOf, theRules, symbol, goodItems, goodRule, goodRules, rulesGood}
+use Rattle.rules.specs.Rules.{Item, con, slot, Rule, bodyWords, restOf, itemOf, itemsOf, ruleOf, rulesOf, theRules, symbol, third, goodItems, goodRule, goodRules, rulesGood}
 use Rattle.rules.specs.laws.Every.{All, chain-at}
 use Rattle.rules.specs.laws.Words.{good-rule, body-count}
 
@@ -30,9 +30,10 @@ items-ok-of : (ws : List ℕ) → goodItems ws ≡ true → All ItemOk (itemsOf 
 unfolding goodItems itemsOf
 items-ok-of [] g = tt
 items-ok-of (k ∷ []) g = tt
-items-ok-of (k ∷ s ∷ ws) g =
-    let c = chain-at (not (ltb 1 k)) (symbol s ∷ goodItems ws ∷ []) g in
-    (item-ok k s (c 1), items-ok-of ws (c 2))
+items-ok-of (k ∷ s ∷ []) g = tt
+items-ok-of (k ∷ s ∷ v ∷ ws) g =
+    let c = chain-at (not (ltb 1 k)) (symbol s ∷ third k v ∷ goodItems ws ∷ []) g in
+    (item-ok k s (c 1), items-ok-of ws (c 3))
 
 rule-ok : (p : ℕ) (ws : List ℕ) → goodRule p ws ≡ true → RuleOk (ruleOf ws)
 rule-ok p ws g = record { some-item = body-count p ws g .0; items-ok = items-ok-of (bodyWords ws) (good-rule p ws g .items) }

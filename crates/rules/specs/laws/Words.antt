@@ -11,11 +11,12 @@ use native.Mathlib.Omega.{arith}
 use lib.Dec.{eqb, ltb, leb}
 use lib.ListN.{length, take, drop, getD, getElem?, drop-of-length-le, length-drop}
 use lib.Seq.{drop-cons, drop-drop, length-take-le, getD-drop, getD-take}
-use borrow.Author.Tests.{ltb-true, ltb-false, leb-true, not-true, ne-eqb}
+use borrow.Author.Tests.{ltb-true, ltb-false, leb-true, eqb-true, not-true, ne-eqb}
 use Rattle.words.specs.Limits.{mostItems, mostRules}
 use Rattle.words.specs.Outcome.{pick}
 use Rattle.words.specs.laws.Tests.{and-l, and-r, by-test}
-use Rattle.rules.specs.Rules.{Item, con, slot, Rule, itemWidth, sizeOf, bodyWords, restOf, itemOf, itemsOf, ruleOf, rulesOf, theRules, ruleAt, slots, source, symbol, goodItems, goodHead, goodRule, goodRules, rulesGood, Stretch, noStretch, stretchFrom}
+use Rattle.rules.specs.Rules.{Item, con, slot, Rule, itemWidth, sizeOf, bodyWords, restOf, itemOf, itemsOf, variables, ruleOf, rulesOf, theRules, ruleAt, slots, source, symbol, third, goodItems, absent, distinct, goodBody, goodHead, goodRule, goodRules, rulesGood, Stretch, noStretch, stretchFrom}
+use Rattle.rules.specs.laws.Every.{chain-at}
 
 -- ---- a body, from word i on
 
@@ -25,33 +26,45 @@ items-good-end ws i h = rw (drop-of-length-le ws h)
 
 pub items-good-odd : (ws : List ℕ) (i : ℕ) → i < length ws → length ws - i < itemWidth → goodItems (drop i ws) ≡ false
 unfolding goodItems
-items-good-odd ws i h k = rw (drop-cons ws i 0 h, drop-of-length-le ws {i = suc i} (omega arith))
+items-good-odd ws i h k = by (ltb (suc i) (length ws)) refl
+  where
+    by : (b : Bool) → ltb (suc i) (length ws) ≡ b → goodItems (drop i ws) ≡ false
+    by true e =
+        let a : suc i < length ws = ltb-true (suc i) (length ws) e in
+        rw (drop-cons ws i 0 h, drop-cons ws (suc i) 0 a, drop-of-length-le ws {i = suc (suc i)} (omega arith))
+    by false e = rw (drop-cons ws i 0 h, drop-of-length-le ws {i = suc i} (ltb-false (suc i) (length ws) e))
 
-pub items-good-step : (ws : List ℕ) (i : ℕ) → i + 1 < length ws
-    → goodItems (drop i ws) ≡ not (ltb 1 (getD ws i 0)) && symbol (getD ws (i + 1) 0) && goodItems (drop (i + itemWidth) ws)
-unfolding goodItems
-items-good-step ws i h =
+-- an item of a body, word by word
+three : (ws : List ℕ) (i : ℕ) → i + 2 < length ws
+    → drop i ws ≡ getD ws i 0 ∷ getD ws (i + 1) 0 ∷ getD ws (i + 2) 0 ∷ drop (i + itemWidth) ws
+three ws i h =
     let a : i < length ws = omega arith in
     let b : suc i < length ws = omega arith in
-    rw (drop-cons ws i 0 a, drop-cons ws (suc i) 0 b, add-one, add-two)
+    let c : suc (suc i) < length ws = omega arith in
+    let e : i + itemWidth ≡ suc (suc (suc i)) = omega arith in
+    rw (drop-cons ws i 0 a, drop-cons ws (suc i) 0 b, drop-cons ws (suc (suc i)) 0 c, e, add-one, add-two)
+
+pub items-good-step : (ws : List ℕ) (i : ℕ) → i + 2 < length ws
+    → goodItems (drop i ws) ≡ not (ltb 1 (getD ws i 0)) && symbol (getD ws (i + 1) 0) && third (getD ws i 0) (getD ws (i + 2) 0)
+    && goodItems (drop (i + itemWidth) ws)
+unfolding goodItems
+items-good-step ws i h = rw (three ws i h)
 
 pub items-end : (ws : List ℕ) (i : ℕ) → length ws ≤ i → itemsOf (drop i ws) ≡ []
 unfolding itemsOf
 items-end ws i h = rw (drop-of-length-le ws h)
 
-pub items-step : (ws : List ℕ) (i : ℕ) → i + 1 < length ws
+pub items-step : (ws : List ℕ) (i : ℕ) → i + 2 < length ws
     → itemsOf (drop i ws) ≡ itemOf (getD ws i 0) (getD ws (i + 1) 0) ∷ itemsOf (drop (i + itemWidth) ws)
 unfolding itemsOf
-items-step ws i h =
-    let a : i < length ws = omega arith in
-    let b : suc i < length ws = omega arith in
-    rw (drop-cons ws i 0 a, drop-cons ws (suc i) 0 b, add-one, add-two)
+items-step ws i h = rw (three ws i h)
 
 -- good items at word i: one whole item, then good items
 pub record GoodItem (ws : List ℕ) (i : ℕ) : Type 0 where
-  pub whole : i + 1 < length ws
+  pub whole : i + 2 < length ws
   pub kind : getD ws i 0 ≤ 1
   pub named : symbol (getD ws (i + 1) 0) ≡ true
+  pub varied : third (getD ws i 0) (getD ws (i + 2) 0) ≡ true
   pub rest : goodItems (drop (i + itemWidth) ws) ≡ true
 
 pub good-item : (ws : List ℕ) (i : ℕ) → i < length ws → goodItems (drop i ws) ≡ true → GoodItem ws i
@@ -60,16 +73,18 @@ good-item ws i h g = by (ltb (length ws - i) itemWidth) refl
     by : (b : Bool) → ltb (length ws - i) itemWidth ≡ b → GoodItem ws i
     by true e = absurd (false≢true (sym (items-good-odd ws i h (ltb-true (length ws - i) itemWidth e)) ∙ g))
     by false e =
-        let w : i + 1 < length ws = omega (arith, ltb-false (length ws - i) itemWidth e) in
+        let w : i + 2 < length ws = omega (arith, ltb-false (length ws - i) itemWidth e) in
         let k = not (ltb 1 (getD ws i 0)) in
         let s = symbol (getD ws (i + 1) 0) in
+        let v = third (getD ws i 0) (getD ws (i + 2) 0) in
         let r = goodItems (drop (i + itemWidth) ws) in
-        let a : k && s && r ≡ true = sym (items-good-step ws i w) ∙ g in
+        let a = chain-at k (s ∷ v ∷ r ∷ []) (sym (items-good-step ws i w) ∙ g) in
         record {
           whole = w;
-          kind = ltb-false 1 (getD ws i 0) (not-true (ltb 1 (getD ws i 0)) (and-l k s (and-l (k && s) r a)));
-          named = and-r k s (and-l (k && s) r a);
-          rest = and-r (k && s) r a;
+          kind = ltb-false 1 (getD ws i 0) (not-true (ltb 1 (getD ws i 0)) (a 0));
+          named = a 1;
+          varied = a 2;
+          rest = a 3;
         }
 
 -- how many items a body has
@@ -77,21 +92,23 @@ pub items-count : (ws : List ℕ) → length (itemsOf ws) ≡ length ws / itemWi
 unfolding itemsOf
 items-count [] = refl
 items-count (k ∷ []) = refl
-items-count (k ∷ s ∷ ws) = omega (arith, items-count ws)
+items-count (k ∷ s ∷ []) = refl
+items-count (k ∷ s ∷ v ∷ ws) = omega (arith, items-count ws)
 
--- item j of a body stands at word 2j
-pub item-within : (ws : List ℕ) (j : ℕ) → j < length (itemsOf ws) → itemWidth * j + 1 < length ws
+-- item j of a body stands at word 3j
+pub item-within : (ws : List ℕ) (j : ℕ) → j < length (itemsOf ws) → itemWidth * j + 2 < length ws
 item-within ws j h = omega (arith, items-count ws)
 
-item-at : (ws : List ℕ) (j : ℕ) → itemWidth * j + 1 < length ws
+item-at : (ws : List ℕ) (j : ℕ) → itemWidth * j + 2 < length ws
     → getElem? (itemsOf ws) j ≡ some (itemOf (getD ws (itemWidth * j) 0) (getD ws (itemWidth * j + 1) 0))
 unfolding itemsOf
 item-at [] j h = absurd (omega arith)
 item-at (k ∷ []) j h = absurd (omega arith)
-item-at (k ∷ s ∷ ws) zero h = refl
-item-at (k ∷ s ∷ ws) (suc j) h =
-    let e : itemWidth * suc j + 1 ≡ suc (suc (itemWidth * j + 1)) = omega arith in
-    let d : itemWidth * suc j ≡ suc (suc (itemWidth * j)) = omega arith in
+item-at (k ∷ s ∷ []) j h = absurd (omega arith)
+item-at (k ∷ s ∷ v ∷ ws) zero h = refl
+item-at (k ∷ s ∷ v ∷ ws) (suc j) h =
+    let e : itemWidth * suc j + 1 ≡ suc (suc (suc (itemWidth * j + 1))) = omega arith in
+    let d : itemWidth * suc j ≡ suc (suc (suc (itemWidth * j))) = omega arith in
     rw (e, d) (item-at ws j (omega arith))
 
 module _ (ws : List ℕ) (j : ℕ) (h : j < length (itemsOf ws)) where
@@ -126,13 +143,62 @@ slots-of zero s b h = let e : slots b ≡ 0 + slots b = omega arith in e
 slots-of (suc zero) s b h = let e : suc (slots b) ≡ 1 + slots b = omega arith in e
 slots-of (suc (suc k)) s b h = absurd (omega arith)
 
-pub slots-step : (ws : List ℕ) (i : ℕ) → i + 1 < length ws → getD ws i 0 ≤ 1
+pub slots-step : (ws : List ℕ) (i : ℕ) → i + 2 < length ws → getD ws i 0 ≤ 1
     → slots (itemsOf (drop i ws)) ≡ getD ws i 0 + slots (itemsOf (drop (i + itemWidth) ws))
 slots-step ws i h k = rw (items-step ws i h) (slots-of (getD ws i 0) (getD ws (i + 1) 0) (itemsOf (drop (i + itemWidth) ws)) k)
 
 pub slots-end : (ws : List ℕ) (i : ℕ) → length ws ≤ i → slots (itemsOf (drop i ws)) ≡ 0
 unfolding slots
 slots-end ws i h = rw (items-end ws i h)
+
+-- ---- the variables of a body, from word i on
+
+pub variables-end : (ws : List ℕ) (i : ℕ) → length ws ≤ i → variables (drop i ws) ≡ []
+unfolding variables
+variables-end ws i h = rw (drop-of-length-le ws h)
+
+-- a constant has none, and a slot has its own
+variables-con : (k s v : ℕ) (ws : List ℕ) → k ≤ 1 → (k ≡ 1 → ⊥) → variables (k ∷ s ∷ v ∷ ws) ≡ variables ws
+unfolding variables
+variables-con zero s v ws b h = refl
+variables-con (suc k) s v ws b h = absurd (h (omega arith))
+
+variables-slot : (k s v : ℕ) (ws : List ℕ) → k ≡ 1 → variables (k ∷ s ∷ v ∷ ws) ≡ v ∷ variables ws
+unfolding variables
+variables-slot zero s v ws h = absurd (omega arith)
+variables-slot (suc k) s v ws h = refl
+
+-- no variable is 0, so a constant's third word is no other item's variable
+absent-item : (k s v : ℕ) (ws : List ℕ) (x : ℕ) → third k v ≡ true → symbol x ≡ true
+    → absent x (variables (k ∷ s ∷ v ∷ ws)) ≡ not (eqb v x) && absent x (variables ws)
+unfolding variables absent third symbol
+absent-item zero s v ws x t h =
+    let a : not (ltb x 1) ≡ true = search and-l in
+    let b = ltb-false x 1 (not-true (ltb x 1) a) in
+    let e : eqb v x ≡ false = ne-eqb v x (λ q. absurd (omega (arith, eqb-true v 0 t, b))) in
+    rw e
+absent-item (suc k) s v ws x t h = refl
+
+module _ (ws : List ℕ) (i : ℕ) (g : GoodItem ws i) where
+  pub absent-step : (x : ℕ) → symbol x ≡ true
+      → absent x (variables (drop i ws)) ≡ not (eqb (getD ws (i + 2) 0) x) && absent x (variables (drop (i + itemWidth) ws))
+  absent-step x h =
+      rw (three ws i (g .whole))
+      (absent-item (getD ws i 0) (getD ws (i + 1) 0) (getD ws (i + 2) 0) (drop (i + itemWidth) ws) x (g .varied) h)
+
+  pub variable : getD ws i 0 ≡ 1 → symbol (getD ws (i + 2) 0) ≡ true
+  unfolding third
+  variable k = rw k at (g .varied)
+
+  pub distinct-con : (getD ws i 0 ≡ 1 → ⊥) → distinct (variables (drop i ws)) ≡ distinct (variables (drop (i + itemWidth) ws))
+  distinct-con h =
+      rw (three ws i (g .whole), variables-con (getD ws i 0) (getD ws (i + 1) 0) (getD ws (i + 2) 0) (drop (i + itemWidth) ws) (g .kind) h)
+
+  pub distinct-slot : getD ws i 0 ≡ 1
+      → distinct (variables (drop i ws)) ≡ absent (getD ws (i + 2) 0) (variables (drop (i + itemWidth) ws)) && distinct (variables (drop (i + itemWidth) ws))
+  unfolding distinct
+  distinct-slot h =
+      rw (three ws i (g .whole), variables-slot (getD ws i 0) (getD ws (i + 1) 0) (getD ws (i + 2) 0) (drop (i + itemWidth) ws) h)
 
 -- ---- a good rule that stands first
 
@@ -145,7 +211,7 @@ pub record GoodRule (ws : List ℕ) : Type 0 where
   pub items : goodItems (bodyWords ws) ≡ true
 
 pub good-rule : (p : ℕ) (ws : List ℕ) → goodRule p ws ≡ true → GoodRule ws
-unfolding goodRule goodHead
+unfolding goodRule goodHead goodBody
 good-rule p ws e =
     let l : not (ltb (length ws) 2) ≡ true = search (and-l, and-r) in
     let a : not (ltb (getD ws 1 0) 1) ≡ true = search (and-l, and-r) in
@@ -176,9 +242,9 @@ body-word ws j h = getD-take (sizeOf ws - 2) (drop 2 ws) j 0 (omega arith) ∙ g
 -- a body of one item
 pub one-item : (ws : List ℕ) → GoodRule ws → getD ws 1 0 ≡ 1 → itemsOf (bodyWords ws) ≡ itemOf (getD ws 2 0) (getD ws 3 0) ∷ []
 one-item ws g e =
-    let l : length (bodyWords ws) ≡ 2 = omega (arith, body-length ws g) in
+    let l : length (bodyWords ws) ≡ itemWidth = omega (arith, body-length ws g) in
     items-step (bodyWords ws) 0 (omega arith)
-    ∙ rw (body-word ws 0 (omega arith), body-word ws 1 (omega arith), items-end (bodyWords ws) 2 (omega arith))
+    ∙ rw (body-word ws 0 (omega arith), body-word ws 1 (omega arith), items-end (bodyWords ws) itemWidth (omega arith))
 
 -- which rules are conversions, by their words
 source-short : (b : List Item) → (length b ≡ 1 → ⊥) → source b ≡ none

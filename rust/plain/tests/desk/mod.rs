@@ -3,7 +3,8 @@
 
 use plain::{Answer, Built};
 
-/// `2 c5 s3; 3 c7` is a rule with result 2 and a body of constant 5 and slot 3, and another.
+/// `2 c5 s3; 3 c7 s2:9` is a rule with result 2 and a body of constant 5 and slot 3, and another, whose slot has variable 9. Slots that name none
+/// have the variables 1, 2, 3 and so on.
 pub fn rules(text: &str) -> Vec<u32> {
     text.split(';').filter(|rule| !rule.trim().is_empty()).flat_map(rule).collect()
 }
@@ -11,13 +12,22 @@ pub fn rules(text: &str) -> Vec<u32> {
 fn rule(text: &str) -> Vec<u32> {
     let mut parts = text.split_whitespace();
     let result = parts.next().expect("a result").parse().expect("a number");
-    let items: Vec<u32> = parts.flat_map(item).collect();
-    [vec![result, items.len() as u32 / 2], items].concat()
+    let mut slots = 0;
+    let items: Vec<[u32; 3]> = parts.map(|text| item(text, &mut slots)).collect();
+    [vec![result, items.len() as u32], items.concat()].concat()
 }
 
-fn item(text: &str) -> [u32; 2] {
+fn item(text: &str, slots: &mut u32) -> [u32; 3] {
+    let number = |text: &str| text.parse().expect("a number");
     let (kind, symbol) = text.split_at(1);
-    [(kind == "s") as u32, symbol.parse().expect("a number")]
+    if kind == "c" {
+        return [0, number(symbol), 0];
+    }
+    *slots += 1;
+    match symbol.split_once(':') {
+        Some((typecode, variable)) => [1, number(typecode), number(variable)],
+        None => [1, number(symbol), *slots],
+    }
 }
 
 pub const S: &str = "2 c10; 2 c11; 3 c12; 4 c13; 3 s4; 2 c14 s2; 2 c5 s2 c7 s2 c6; 2 s3 c8 s3; 2 s3 c9 s3";

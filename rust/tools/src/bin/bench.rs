@@ -9,6 +9,7 @@ use std::fmt::Write as _;
 use std::fs::File;
 use std::hint::black_box;
 use std::process::{Command, ExitCode, Stdio};
+use tools::bodies::{numbered, without_variables};
 use tools::metamath::Database;
 use tools::tables;
 use tools::timing::{least, median, time, REPETITIONS};
@@ -111,18 +112,15 @@ impl Case {
         self.statements.iter().map(Vec::len).max().unwrap_or(0)
     }
 
-    /// Where each rule starts.
-    fn starts(&self) -> impl Iterator<Item = usize> + '_ {
-        let after = |at: &usize| self.rules.get(at + 1).map(|length| at + 2 + 2 * *length as usize);
-        std::iter::successors(Some(0), after).take_while(|&at| at < self.rules.len())
+    fn rule_count(&self) -> usize {
+        without_variables(&self.rules).len()
     }
 
     /// The lines that give the published Rust these rules, up to its build.
     fn lines(&self) -> String {
         let mut lines = format!("set {} {}\n", self.provable, self.logic);
-        for at in self.starts() {
-            let words = &self.rules[at..at + 2 + 2 * self.rules[at + 1] as usize];
-            lines += &line("rule", words);
+        for words in without_variables(&self.rules) {
+            lines += &line("rule", &words);
         }
         lines + &self.command_lines() + "build\n"
     }
@@ -480,7 +478,7 @@ impl Bench {
             row("verify", columns.iter().map(|c| c.verify)),
         ];
         let headings = [texts(["microseconds"]), columns.iter().map(|c| c.name.clone()).collect()].concat();
-        let (rules, lines, count) = (case.starts().count(), case.edges.len() / 16, case.statements.len());
+        let (rules, lines, count) = (case.rule_count(), case.edges.len() / 16, case.statements.len());
         let about = format!("{rules} rules, {lines} rows; statements: {count}, on average {tokens:.1} tokens and {passes:.1} passes");
         table(&format!("**{title}** ({about})"), &headings, &rows);
         (columns, outcomes)
@@ -568,7 +566,7 @@ impl Bench {
         let copies = 200_000 / passes + 1;
         let theirs = self.oracles.iter().map(|oracle| oracle.parse(case, copies));
         let of_pass = |ns: f64| format!("{:.0}", ns / passes as f64);
-        let sizes = [case.longest(), case.starts().count(), case.edges.len() / 16, passes].map(|size| size.to_string());
+        let sizes = [case.longest(), case.rule_count(), case.edges.len() / 16, passes].map(|size| size.to_string());
         let ours = [
             micro(checks),
             micro(idle - checks),
@@ -584,18 +582,19 @@ impl Bench {
 
 /// Set S of the paper, after `before`.
 fn set_s(before: Vec<u32>, statement: Vec<u32>) -> Case {
-    let set: [&[u32]; 9] = [
-        &[2, 1, 0, 10],
-        &[2, 1, 0, 11],
-        &[3, 1, 0, 12],
-        &[4, 1, 0, 13],
-        &[3, 1, 1, 4],
-        &[2, 2, 0, 14, 1, 2],
-        &[2, 5, 0, 5, 1, 2, 0, 7, 1, 2, 0, 6],
-        &[2, 3, 1, 3, 0, 8, 1, 3],
-        &[2, 3, 1, 3, 0, 9, 1, 3],
+    let set: [(u32, &[[u32; 2]]); 9] = [
+        (2, &[[0, 10]]),
+        (2, &[[0, 11]]),
+        (3, &[[0, 12]]),
+        (4, &[[0, 13]]),
+        (3, &[[1, 4]]),
+        (2, &[[0, 14], [1, 2]]),
+        (2, &[[0, 5], [1, 2], [0, 7], [1, 2], [0, 6]]),
+        (2, &[[1, 3], [0, 8], [1, 3]]),
+        (2, &[[1, 3], [0, 9], [1, 3]]),
     ];
-    Case::new(1, 2, [before, set.concat()].concat(), vec![statement])
+    let rules = set.iter().flat_map(|(result, body)| numbered(*result, body));
+    Case::new(1, 2, before.into_iter().chain(rules).collect(), vec![statement])
 }
 
 /// The ten-pass sentence, put so many times over into its own second half: each time adds four tokens.
@@ -610,13 +609,13 @@ fn chained(depth: usize) -> Vec<u32> {
 
 /// Rules with 32 constants each: 32 rows for one rule.
 fn rows_before(count: u32) -> Vec<u32> {
-    let rule = |k: u32| [vec![2, 32, 0, 1000 + k], [0, 999].repeat(31)].concat();
+    let rule = |k: u32| numbered(2, &[vec![[0, 1000 + k]], vec![[0, 999]; 31]].concat());
     (0..count).flat_map(rule).collect()
 }
 
 /// Conversions between typecodes that nothing else has: rules without rows.
 fn rules_before(count: u32) -> Vec<u32> {
-    (0..count).flat_map(|k| [30_000 + k, 1, 1, 40_000 + k]).collect()
+    (0..count).flat_map(|k| numbered(30_000 + k, &[[1, 40_000 + k]])).collect()
 }
 
 fn sheet(bench: &Bench) {

@@ -90,7 +90,7 @@ impl<'a> Grammar<'a> {
                 let Some(told) = self.database.rules.get(rule as usize - 1) else {
                     return Node::Branch;
                 };
-                let slots = told.body.iter().filter(|item| matches!(item, Item::Slot(_))).count();
+                let slots = told.body.iter().filter(|item| matches!(item, Item::Slot { .. })).count();
                 Node::Leaf {
                     rule,
                     typecode: told.result,

@@ -206,7 +206,7 @@ fn main() -> ExitCode {
 #[cfg(test)]
 mod tests {
     use super::*;
-    use jiehkavon::{Item, Rules, Symbol};
+    use jiehkavon::{Label, Rules, Symbol};
 
     fn task(arguments: &[&str]) -> Result<Task, String> {
         Task::of(arguments.iter().map(|argument| argument.to_string()))
@@ -251,10 +251,10 @@ mod tests {
     /// c10, and c14 before a formula; `twice` has a body collide.
     fn package(twice: bool) -> Package {
         let mut rules = Rules::new(symbol(1), symbol(2));
-        rules.push(symbol(2), &[Item::Constant(symbol(10))]);
-        rules.push(symbol(2), &[Item::Constant(symbol(14)), Item::Slot(symbol(2))]);
+        rules.push_numbered(symbol(2), &[Label::Constant(symbol(10))]);
+        rules.push_numbered(symbol(2), &[Label::Constant(symbol(14)), Label::Slot(symbol(2))]);
         if twice {
-            rules.push(symbol(2), &[Item::Constant(symbol(10))]);
+            rules.push_numbered(symbol(2), &[Label::Constant(symbol(10))]);
         }
         Package::new(rules)
     }

@@ -11,6 +11,7 @@ use jiehkavon::words::{parse, Answer};
 use std::env::{args, current_exe};
 use std::hint::black_box;
 use std::process::{Command, ExitCode};
+use tools::bodies::numbered;
 use tools::timing::least;
 
 /// About so many entries stand in the top tree.
@@ -28,15 +29,15 @@ const TO: u32 = 3;
 const FRO: u32 = 4;
 
 fn rules() -> Vec<u32> {
-    let after = |token: u32| vec![2, 2, 1, 2, 0, token];
+    let after = |token: u32| numbered(2, &[[1, 2], [0, token]]);
     let bodies = [
-        vec![2, 1, 0, 10],
+        numbered(2, &[[0, 10]]),
         after(11),
-        vec![3, 1, 1, 2],
-        vec![2, 1, 1, 3],
+        numbered(3, &[[1, 2]]),
+        numbered(2, &[[1, 3]]),
         after(12),
         after(13),
-        vec![2, 3, 1, 2, 1, 2, 0, 14],
+        numbered(2, &[[1, 2], [1, 2], [0, 14]]),
     ];
     bodies.concat()
 }

@@ -25,11 +25,42 @@ impl Record {
     fn length(&self) -> u32 {
         self.body.len() as u32 + 2
     }
+
+    /// The bytes of an item, in a rule.
+    fn item_bytes(&self) -> Option<usize> {
+        match self.kind {
+            2 => Some(12),
+            5 => Some(8),
+            _ => None,
+        }
+    }
+
+    /// The words that the record has once it is read, if it is whole and its body has the right size: those of rules, and those of statements.
+    pub fn words(&self) -> (usize, usize) {
+        match (self.kind, self.item_bytes()) {
+            (_, Some(item)) => (2 + 3 * (self.body.len().saturating_sub(8) / item), 0),
+            (3, _) => (0, 1 + self.body.len() / 4),
+            _ => (0, 0),
+        }
+    }
 }
 
 /// The records of a good package.
 pub fn records(set: &RuleSet, statements: &[Vec<u32>]) -> Vec<Record> {
-    let rule = |rule: &Rule| Record::new(2, &rule.words());
+    records_of(set, statements, |_| false)
+}
+
+/// The same with some rules in the old form.
+pub fn mixed_records(random: &mut Random, set: &RuleSet, statements: &[Vec<u32>]) -> Vec<Record> {
+    let share = random.pick(&[20, 50, 100]);
+    records_of(set, statements, |_| random.chance(share))
+}
+
+fn records_of(set: &RuleSet, statements: &[Vec<u32>], mut old: impl FnMut(&Rule) -> bool) -> Vec<Record> {
+    let rule = |rule: &Rule| match old(rule) {
+        true => Record::new(5, &rule.old_words()),
+        false => Record::new(2, &rule.words()),
+    };
     let statement = |tokens: &Vec<u32>| Record::new(3, tokens);
     let mut records = vec![Record::new(1, &[set.provable, set.logic])];
     records.extend(set.rules.iter().map(rule));
@@ -65,7 +96,23 @@ pub fn rearrange(random: &mut Random, records: &mut Vec<Record>) {
 
 /// Mostly one that there is, or shares a byte with one.
 fn any_kind(random: &mut Random) -> u16 {
-    let near = [0, 1, 2, 3, 4, 5, 0x0100, 0x0101, 0x0201, 0x0301, 0x0401, 0x0402, u16::MAX];
+    let near = [
+        0,
+        1,
+        2,
+        3,
+        4,
+        5,
+        6,
+        0x0100,
+        0x0101,
+        0x0201,
+        0x0301,
+        0x0401,
+        0x0402,
+        0x0501,
+        u16::MAX,
+    ];
     if random.chance(90) {
         random.pick(&near)
     } else {
@@ -121,13 +168,14 @@ pub fn with_length_fault(random: &mut Random, records: &[Record]) -> Vec<u8> {
 
 /// A package in which one rule says that it has another number of items. Some of these wrap around to the size that the rule has.
 pub fn with_item_fault(random: &mut Random, records: &[Record]) -> Option<Vec<u8>> {
-    let rules: Vec<usize> = (0..records.len()).filter(|&place| records[place].kind == 2).collect();
+    let rules: Vec<usize> = (0..records.len()).filter(|&place| records[place].item_bytes().is_some()).collect();
     if rules.is_empty() {
         return None;
     }
     let mut records = records.to_vec();
     let rule = &mut records[random.pick(&rules)];
-    let items = (rule.body.len() as u32 - 8) / 8;
+    let item = rule.item_bytes()?;
+    let items = (rule.body.len() - 8) as u32 / item as u32;
     let wrong = [
         0,
         items.wrapping_sub(1),
@@ -143,7 +191,7 @@ pub fn with_item_fault(random: &mut Random, records: &[Record]) -> Option<Vec<u8
     // At times the body is made as long as the number says.
     let said = u32::from_le_bytes([rule.body[4], rule.body[5], rule.body[6], rule.body[7]]);
     if said <= 40 && random.chance(50) {
-        rule.body.resize(8 + 8 * said as usize, 0);
+        rule.body.resize(8 + item * said as usize, 0);
     }
     Some(bytes(&records))
 }

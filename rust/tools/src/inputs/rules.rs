@@ -17,22 +17,82 @@ impl Item {
     }
 }
 
+/// The third words of a body's items, whatever the body is.
+#[derive(Clone, Copy, Debug, PartialEq, Eq)]
+pub struct Variables {
+    /// Of the first slot; each further one has more by the step.
+    first: u32,
+    step: u32,
+    /// An item with another third word.
+    fault: Option<(usize, u32)>,
+}
+
+/// 1, 2, 3 and so on.
+const COUNTED: Variables = Variables {
+    first: 1,
+    step: 1,
+    fault: None,
+};
+
+impl Variables {
+    /// Of items of these kinds.
+    fn words(self, kinds: impl Iterator<Item = u32>) -> Vec<u32> {
+        let mut slots = 0;
+        let mut words: Vec<u32> = kinds
+            .map(|kind| {
+                slots += kind;
+                kind * self.first.wrapping_add(self.step.wrapping_mul(slots.wrapping_sub(1)))
+            })
+            .collect();
+        if let Some((place, word)) = self.fault {
+            words.get_mut(place).into_iter().for_each(|third| *third = word);
+        }
+        words
+    }
+
+    /// Different ones for the slots of any body.
+    fn any(random: &mut Random) -> Variables {
+        let [first, step] = random.pick(&[[1, 1], [2, 1], [60, 2_000], [65_535 - 31, 1], [65_535, u32::MAX], [32, u32::MAX]]);
+        Variables { first, step, fault: None }
+    }
+}
+
 #[derive(Clone, Debug, PartialEq, Eq)]
 pub struct Rule {
     pub result: u32,
     pub body: Vec<Item>,
+    variables: Variables,
 }
 
 impl Rule {
     pub fn new(result: u32, body: &[Item]) -> Rule {
-        let body = body.to_vec();
-        Rule { result, body }
+        Rule {
+            result,
+            body: body.to_vec(),
+            variables: COUNTED,
+        }
     }
 
+    /// An item's kind, symbol and variable.
     pub fn words(&self) -> Vec<u32> {
+        let kinds = self.body.iter().map(|item| item.pair()[0]);
         let mut words = vec![self.result, self.body.len() as u32];
-        words.extend(self.body.iter().flat_map(Item::pair));
+        for (item, variable) in self.body.iter().zip(self.variables.words(kinds)) {
+            words.extend(item.pair());
+            words.push(variable);
+        }
         words
+    }
+
+    /// The words that it had when items had no variables.
+    pub fn old_words(&self) -> Vec<u32> {
+        let pairs = self.body.iter().flat_map(Item::pair);
+        [self.result, self.body.len() as u32].into_iter().chain(pairs).collect()
+    }
+
+    fn slots(&self) -> Vec<usize> {
+        let slot = |place: &usize| matches!(self.body[*place], Item::Slot(_));
+        (0..self.body.len()).filter(slot).collect()
     }
 
     fn is_conversion(&self) -> bool {
@@ -181,7 +241,7 @@ fn one_rule(random: &mut Random, palette: &Palette, earlier: &[Rule]) -> Vec<Rul
     if body == [Item::Slot(result)] {
         return Vec::new();
     }
-    vec![Rule { result, body }]
+    vec![Rule::new(result, &body)]
 }
 
 fn body(random: &mut Random, palette: &Palette, earlier: &[Rule]) -> Vec<Item> {
@@ -286,21 +346,49 @@ fn ring(random: &mut Random, palette: &mut Palette) -> Vec<Rule> {
     rules
 }
 
-/// Sets one number of one rule to an end of its range, or just past it.
+/// Other variables in the slots of each rule, still different ones.
+pub fn rename(random: &mut Random, set: &mut RuleSet) {
+    set.rules.iter_mut().for_each(|rule| rule.variables = Variables::any(random));
+}
+
+/// One variable in two slots, if a rule has two.
+fn same_variable(random: &mut Random, set: &mut RuleSet) {
+    let mut rules: Vec<&mut Rule> = set.rules.iter_mut().filter(|rule| rule.slots().len() > 1).collect();
+    if rules.is_empty() {
+        return;
+    }
+    let place = random.below(rules.len());
+    let rule = &mut rules[place];
+    let slots = rule.slots();
+    let (one, other) = (random.below(slots.len()), random.below(slots.len() - 1));
+    let other = if other < one { other } else { other + 1 };
+    let word = rule.words()[2 + 3 * slots[one] + 2];
+    rule.variables.fault = Some((slots[other], word));
+}
+
+/// The ends of the range of variables, and past them.
+const VARIABLES: [u32; 5] = [0, 1, 65_535, 65_536, u32::MAX];
+
+/// Sets one number of one rule to an end of its range, or just past it; or has one variable in two slots.
 pub fn rule_fault(random: &mut Random, set: &mut RuleSet) {
     if set.rules.is_empty() {
         return;
+    }
+    if random.chance(15) {
+        return same_variable(random, set);
     }
     let (provable, place) = (set.provable, random.below(set.rules.len()));
     let rule = &mut set.rules[place];
     let item = random.below(rule.body.len());
     let symbol = random.pick(&[0, 1, 65_535, 65_536]);
-    match random.below(6) {
+    match random.below(8) {
         0 => rule.result = random.pick(&[0, 65_535, 65_536, provable]),
         1 => rule.body[item] = Item::Constant(symbol),
         2 => rule.body[item] = Item::Slot(symbol),
         3 => rule.body = vec![Item::Slot(rule.result)],
         4 => rule.body.clear(),
+        5 => rule.variables.fault = Some((item, random.pick(&VARIABLES))),
+        6 => rule.variables.fault = rule.slots().first().map(|&slot| (slot, random.pick(&VARIABLES))),
         _ => rule.body = vec![rule.body[item]; random.between(31..=33)],
     }
 }

@@ -3,8 +3,8 @@
 use super::commands::{fault, words};
 use super::gardens::{garden, samples, Garden};
 use super::limits;
-use super::packages::{bytes, counted, rearrange, records, with_item_fault, with_length_fault};
-use super::rules::{rule_set, RuleSet};
+use super::packages::{bytes, counted, mixed_records, rearrange, records, with_item_fault, with_length_fault, Record};
+use super::rules::{rename, rule_fault, rule_set, RuleSet};
 use super::sentences::{guided, Grower};
 use super::tables::{ample_room, built, hand_made, piled, rearranged, with_tables, ROW};
 use super::Grammar;
@@ -54,6 +54,49 @@ fn rule_sets_are_good_rules_and_mostly_build() {
     assert!(!numbers.contains(&10));
     let count = |wanted: u32| numbers.iter().filter(|&&number| number == wanted).count();
     assert!(count(0) > SETS / 3 && count(11) > 0 && count(14) > 0 && count(16) > 0);
+}
+
+#[test]
+fn other_variables_change_no_tree() {
+    let mut random = Random::new(12);
+    for mut set in sets(12) {
+        let counted = (set.words(), build(&set, ample_room(&set)));
+        rename(&mut random, &mut set);
+        let renamed = (set.words(), build(&set, ample_room(&set)));
+        assert_eq!((counted.0.len(), counted.1), (renamed.0.len(), renamed.1));
+    }
+}
+
+/// Whether a constant has a variable, a slot none, a slot one past the last, and two slots of a rule the same.
+fn variable_faults(set: &RuleSet) -> [bool; 4] {
+    let mut found = [false; 4];
+    for rule in &set.rules {
+        let words = rule.words();
+        let items = || words[2..].chunks_exact(3);
+        let slots: Vec<u32> = items().filter(|item| item[0] == 1).map(|item| item[2]).collect();
+        found[0] |= items().any(|item| item[0] == 0 && item[2] != 0);
+        found[1] |= slots.contains(&0);
+        found[2] |= slots.iter().any(|&variable| variable > 65_535);
+        found[3] |= (1..slots.len()).any(|slot| slots[..slot].contains(&slots[slot]));
+    }
+    found
+}
+
+#[test]
+fn rule_faults_have_every_fault_of_variables() {
+    let mut random = Random::new(13);
+    let mut counts = [0; 4];
+    for mut set in sets(13).into_iter().chain(sets(14)) {
+        rule_fault(&mut random, &mut set);
+        let faults = variable_faults(&set);
+        for (count, fault) in counts.iter_mut().zip(faults) {
+            *count += fault as usize;
+        }
+        if faults.contains(&true) {
+            assert_eq!(build(&set, ample_room(&set)).0, 10, "{set:?}");
+        }
+    }
+    assert!(counts.iter().all(|&count| count > 2), "{counts:?}");
 }
 
 #[test]
@@ -151,7 +194,7 @@ fn long_lists_are_trees() {
 
 /// The number that reading a package answers, with room for whatever it says.
 fn package_number(package: &[u8]) -> u32 {
-    let [mut rules, mut statements] = [(); 2].map(|()| vec![0; package.len() / 4]);
+    let [mut rules, mut statements] = [(); 2].map(|()| vec![0; package.len() / 2]);
     plain::package_read(package, &mut rules, &mut statements).number
 }
 
@@ -165,6 +208,32 @@ fn packages_are_good_and_come_back() {
         let answer = plain::package_write(set.provable, set.logic, &set.words(), &words, &mut written);
         assert_eq!((answer.number, written), (0, package));
     }
+}
+
+#[test]
+fn packages_of_both_forms_come_back_in_the_new_one() {
+    let mut random = Random::new(11);
+    let mut mixed = 0;
+    for set in sets(11) {
+        let statements = [vec![set.provable, 10]];
+        let records = mixed_records(&mut random, &set, &statements);
+        let has = |kind: u16| records.iter().any(|record| record.kind == kind);
+        mixed += (has(2) && has(5)) as usize;
+        let package = bytes(&records);
+        let needed = records
+            .iter()
+            .map(Record::words)
+            .fold((0, 0), |sum, words| (sum.0 + words.0, sum.1 + words.1));
+        let (mut rules, mut words) = (vec![0; needed.0], vec![0; needed.1]);
+        let read = plain::package_read(&package, &mut rules, &mut words);
+        assert_eq!((read.number, read.rules, read.words), (0, needed.0, needed.1));
+        assert_eq!(rules, set.words());
+        let new = bytes(&self::records(&set, &statements));
+        let mut written = vec![0; new.len()];
+        plain::package_write(set.provable, set.logic, &rules, &words, &mut written);
+        assert_eq!(written, new);
+    }
+    assert!(mixed > SETS / 4, "{mixed}");
 }
 
 #[test]

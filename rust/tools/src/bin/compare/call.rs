@@ -313,7 +313,7 @@ mod tests {
         let call = Call {
             entry: Entry::Build,
             numbers: vec![1, 2],
-            slices: vec![vec![2, 1, 0, 10], vec![], vec![9; 3], vec![], vec![]],
+            slices: vec![vec![2, 1, 0, 10, 0], vec![], vec![9; 3], vec![], vec![]],
         };
         let outcome = ordinary(&call);
         assert!(outcome.kept(&call) && outcome.slice(2) == [0; 3]);

@@ -2,9 +2,9 @@
 
 use tools::inputs::damage::damage;
 use tools::inputs::packages::{
-    any_bytes, any_records, bytes, change_byte, counted, rearrange, records, with_item_fault, with_length_fault, Record,
+    any_bytes, any_records, bytes, change_byte, counted, mixed_records, rearrange, records, with_item_fault, with_length_fault, Record,
 };
-use tools::inputs::rules::{rule_fault, rule_set, RuleSet};
+use tools::inputs::rules::{rename, rule_fault, rule_set, RuleSet};
 use tools::inputs::sentences::Grower;
 use tools::inputs::tables::with_tables;
 
@@ -19,11 +19,17 @@ impl Comparison {
     pub fn package_round(&mut self) -> Compared {
         let size = self.random.between(0..=6);
         let mut set = rule_set(&mut self.random, size);
+        if self.random.chance(50) {
+            rename(&mut self.random, &mut set);
+        }
         if self.random.chance(10) {
             rule_fault(&mut self.random, &mut set);
         }
         let statements = self.some_statements(&set);
-        let records = records(&set, &statements);
+        let records = match self.random.chance(50) {
+            true => records(&set, &statements),
+            false => mixed_records(&mut self.random, &set, &statements),
+        };
         self.reads(&records)?;
         self.writes(&set, &statements)?;
         self.record_faults(&records)?;
@@ -49,7 +55,7 @@ impl Comparison {
 
     /// With room for whatever the bytes may say.
     fn read(&mut self, package: &[u8]) -> Compared {
-        let words = package.len() / 4;
+        let words = package.len() / 2;
         let call = Call::read(&mut self.random, package, words, words);
         self.compare(call).map(drop)
     }
@@ -57,13 +63,11 @@ impl Comparison {
     /// With exactly the room that is needed, and less by one word of either slice; with the package cut and changed.
     fn reads(&mut self, records: &[Record]) -> Compared {
         let package = bytes(records);
-        let words = |kind: u16| {
-            records
-                .iter()
-                .filter(move |record| record.kind == kind)
-                .map(|record| record.body.len() / 4)
-        };
-        let (rules, statements) = (words(2).sum::<usize>(), words(3).map(|tokens| tokens + 1).sum::<usize>());
+        let words = || records.iter().map(Record::words);
+        let (rules, statements) = (
+            words().map(|words| words.0).sum::<usize>(),
+            words().map(|words| words.1).sum::<usize>(),
+        );
         let short = (rules.saturating_sub(1), statements.saturating_sub(1));
         let any = (self.random.between(0..=rules), self.random.between(0..=statements));
         for (rules, statements) in [(rules, statements), (short.0, statements), (rules, short.1), short, any] {

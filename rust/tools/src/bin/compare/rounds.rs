@@ -2,7 +2,7 @@
 
 use plain::{Room, TOKEN_LIMIT};
 use tools::inputs::damage::{damage, field, mangle, word, words};
-use tools::inputs::rules::{rule_fault, rule_set, RuleSet};
+use tools::inputs::rules::{rename, rule_fault, rule_set, RuleSet};
 use tools::inputs::samples::edited_sample;
 use tools::inputs::sentences::{guided, noise, Grower, Sentence};
 use tools::inputs::tables::{ample_room, built, hand_made, piled, rearranged, with_tables, ROW};
@@ -92,10 +92,13 @@ impl Comparison {
     fn grammar_round(&mut self) -> Compared {
         let most = if self.random.chance(75) { 14 } else { 50 };
         let size = self.random.between(0..=most);
-        let set = match self.random.chance(15) {
+        let mut set = match self.random.chance(15) {
             true => edited_sample(&mut self.random),
             false => rule_set(&mut self.random, size),
         };
+        if self.random.chance(50) {
+            rename(&mut self.random, &mut set);
+        }
         self.bodies(&set)?;
         self.builds(&set)?;
         self.rule_faults(&set)?;

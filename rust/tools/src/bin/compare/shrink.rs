@@ -33,7 +33,7 @@ fn take_out(call: &mut Call, slice: usize, end: Instant) {
     let length = call.slices[slice].len();
     let mut lengths: Vec<usize> = (0..usize::BITS)
         .map(|bit| length >> bit)
-        .chain([16, 12, 10, 8, 6, 4, 2])
+        .chain([16, 12, 10, 8, 6, 5, 4, 3, 2])
         .filter(|&length| length > 0)
         .collect();
     lengths.sort_unstable_by(|a, b| b.cmp(a));
