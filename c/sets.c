@@ -15,26 +15,26 @@ static const uint32_t rule_words[] = {
 
 static const uint32_t node_words[S_NODES] = {0, 1, 2, 3, 4, 0, 6, 0, 0, 0, 0, 7, 0, 0, 8, 0, 9};
 
-/* from, kind, symbol, to; the last three have one reduce, rule 5 at offset 0 */
+/* from, kind, symbol, to; they rise by the first three, and three have one reduce, rule 5 at offset 0 */
 static const uint32_t edge_words[S_EDGES][16] = {
+    {0, 0, 5, 7},
     {0, 0, 10, 1},
     {0, 0, 11, 2},
     {0, 0, 12, 3},
     {0, 0, 13, 4},
     {0, 0, 14, 5},
+    {0, 1, 3, 12},
+    {0, 1, 4, 12, 1, 5, 0},
     {5, 1, 2, 6},
-    {0, 0, 5, 7},
     {7, 1, 2, 8},
     {8, 0, 7, 9},
     {9, 1, 2, 10},
     {10, 0, 6, 11},
-    {0, 1, 3, 12},
     {12, 0, 8, 13},
-    {13, 1, 3, 14},
     {12, 0, 9, 15},
-    {15, 1, 3, 16},
-    {0, 1, 4, 12, 1, 5, 0},
+    {13, 1, 3, 14},
     {13, 1, 4, 14, 1, 5, 0},
+    {15, 1, 3, 16},
     {15, 1, 4, 16, 1, 5, 0},
 };
 
@@ -51,23 +51,23 @@ static const uint32_t e_rules[] = {
 static const uint32_t e_path[] = {JIEHKAVON_GARDEN_PATH, 2, 2, 0, 5, 1, 3, 0, 5, 1, 2};
 static const uint32_t e_nodes[E_NODES] = {0, 1, 2, 0, 0, 3, 0, 0, 0, 0, 4, 0, 0, 0, 5, 0};
 
-/* the last two are the path's: a branch that was copied, and an edge that reduces rule 3 and leads to the shadow's node */
+/* two are the path's: E_COPIED is a branch that was copied, and the last an edge that reduces rule 3 and leads to the shadow's node */
 static const uint32_t e_edges[E_EDGES][16] = {
+    {0, 0, 5, 6},
     {0, 0, 20, 1},
     {0, 0, 21, 2},
     {0, 1, 3, 3},
     {3, 0, 8, 4},
     {4, 1, 3, 5},
-    {0, 0, 5, 6},
+    {6, 1, 2, 11},
     {6, 1, 3, 7},
+    {7, 0, 8, 15},
     {7, 0, 9, 8},
     {8, 1, 3, 9},
     {9, 0, 6, 10},
-    {6, 1, 2, 11},
     {11, 0, 7, 12},
     {12, 1, 2, 13},
     {13, 0, 6, 14},
-    {7, 0, 8, 15},
     {15, 1, 3, 11, 1, 3, 0},
 };
 static const uint32_t e_tokens[] = {1, 5, 20, 8, 20, 7, 21, 6};

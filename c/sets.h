@@ -20,7 +20,7 @@ enum { PROVABLE = 1, LOGIC = 2, S_NODES = 17, S_EDGES = 19 };
 extern const slice rules_s, nodes_s, edges_s;
 
 /* A set in which `c5 s3` hides `c5 s2`, the garden path that says so, its tree with and without that, a sentence that needs it and its list. */
-enum { E_NODES = 16, E_EDGES = 16, E_FRAMES = 2 };
+enum { E_NODES = 16, E_EDGES = 16, E_COPIED = 8, E_FRAMES = 2 };
 extern const slice rules_e, path_e, nodes_e, edges_e, tokens_e, list_e;
 
 /* 1 5 10 7 11 6 and its list. */

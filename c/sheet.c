@@ -215,6 +215,33 @@ static void check_uncut_tables(void) {
     check_call(&c, &e, "a row of zeros");
 }
 
+/* Rows of set S that don't rise: any two swapped, one twice, one with the key of the row before it. */
+static void check_order(void) {
+    enum { ROW = JIEHKAVON_ROW_WIDTH, BYTES = ROW * sizeof(uint32_t) };
+    uint32_t edges[(S_EDGES + 1) * ROW];
+    call c = call_s(PARSE, 99);
+    const expected e = {.given = {{JIEHKAVON_BAD_TABLES, 0, 0, 0}}};
+    c.slices[FRAMES] = c.slices[LIST] = c.slices[WORK] = garbage(20);
+    c.slices[EDGES] = (slice){edges, edges_s.length};
+    for (size_t i = 1; i < S_EDGES; i++) {
+        for (size_t j = 0; j < i; j++) {
+            memcpy(edges, edges_s.words, S_EDGES * BYTES);
+            memcpy(edges + i * ROW, edges_s.words + j * ROW, BYTES);
+            memcpy(edges + j * ROW, edges_s.words + i * ROW, BYTES);
+            check_call(&c, &e, "two rows swapped");
+        }
+        memcpy(edges, edges_s.words, S_EDGES * BYTES);
+        memcpy(edges + i * ROW, edges_s.words + (i - 1) * ROW, 3 * sizeof(uint32_t));
+        check_call(&c, &e, "a key twice");
+    }
+    c.slices[EDGES] = SLICE(edges);
+    for (size_t i = 0; i < S_EDGES; i++) {
+        memcpy(edges, edges_s.words, (i + 1) * BYTES);
+        memcpy(edges + (i + 1) * ROW, edges_s.words + i * ROW, (S_EDGES - i) * BYTES);
+        check_call(&c, &e, "a row twice");
+    }
+}
+
 static void check_longest(void) {
     static uint32_t list[LONGEST + 1];
     call c = call_s(PARSE, JIEHKAVON_MOST_PASSES);
@@ -353,12 +380,15 @@ static void check_garden_limits(void) {
 
 /* The sentence that needs the path: without it there is no rule that goes on, with it the list comes, and the check takes that. */
 static void check_garden_sentence(void) {
-    const size_t bare = (size_t)(E_EDGES - 2) * JIEHKAVON_ROW_WIDTH;
+    enum { BEFORE = E_COPIED * JIEHKAVON_ROW_WIDTH, BARE = (E_EDGES - 2) * JIEHKAVON_ROW_WIDTH };
+    uint32_t bare[BARE];
     call c = call_s(PARSE, jiehkavon_enough_passes(tokens_e.length));
     expected e = {.given = {{JIEHKAVON_UNPARSEABLE, 3, 0, 6}}};
     c.slices[RULES] = rules_e;
     c.slices[NODES] = (slice){nodes_e.words, E_NODES - 1};
-    c.slices[EDGES] = (slice){edges_e.words, bare};
+    memcpy(bare, edges_e.words, BEFORE * sizeof(uint32_t));
+    memcpy(bare + BEFORE, edges_e.words + BEFORE + JIEHKAVON_ROW_WIDTH, (BARE - BEFORE) * sizeof(uint32_t));
+    c.slices[EDGES] = SLICE(bare);
     c.slices[TOKENS] = tokens_e;
     c.slices[FRAMES] = garbage(jiehkavon_enough_frames(tokens_e.length));
     c.slices[LIST] = c.slices[WORK] = garbage(jiehkavon_enough_list(tokens_e.length));
@@ -389,6 +419,7 @@ void check_sheet(void) {
         {"the ten-pass sentence in little room", check_rooms},
         {"refused parses, in their order", check_refused_parses},
         {"tables that were not cut", check_uncut_tables},
+        {"rows that do not rise", check_order},
         {"the longest statement", check_longest},
         {"the check alone", check_verifies},
         {"set T", check_set_t},

@@ -143,8 +143,9 @@ enum {
 /* Makes the tree of the rules, and runs the commands after them in the order given; conversions that none of them asks
  * for come last, so that no commands at all, and the conversions alone, give the same tree. The nodes are at the front
  * of `nodes`, the edges at the front of `edges`, zeros after them. A node is one word, 0 for a branch, else the rule of
- * a leaf; node 0 is the root and needs room too. `frames` is room for garden paths, JIEHKAVON_CLONE_WIDTH words each,
- * and zero afterwards. If refused (6, 10 to 17), the first fault is told and all three slices are zero. */
+ * a leaf; node 0 is the root and needs room too. The rows of the edges rise by from, kind and symbol, so that no two
+ * have the same three. `frames` is room for garden paths, JIEHKAVON_CLONE_WIDTH words each, and zero afterwards. If
+ * refused (6, 10 to 17), the first fault is told and all three slices are zero. */
 jiehkavon_built jiehkavon_build(
     uint32_t provable, uint32_t logic,
     const uint32_t *rules, size_t rules_length,
@@ -157,7 +158,8 @@ jiehkavon_built jiehkavon_build(
  * is the provable one, the logic one is wanted. If accepted, the front of `list` holds the formula's rule numbers in
  * postfix order, zeros after them; it is a well typed tree over the rules and spells the statement, whatever the
  * tables are. If refused (1 to 10), `list` is zero. `frames` and `work` are zero afterwards in either case. The edge
- * slice has to be cut to the count that the build gave: a row of zeros is no edge. */
+ * slice has to be cut to the count that the build gave: a row of zeros is no edge. Rows that don't rise as a build's do
+ * are bad tables (8). */
 jiehkavon_answer jiehkavon_parse(
     uint32_t provable, uint32_t logic,
     const uint32_t *rules, size_t rules_length,

@@ -188,7 +188,7 @@ fn tables(rules: &Rules, commands: &[u32], room: Room) -> Result<Tables, BuildEr
     // the counts are at most the room, so that they fit and only zeros are cut off
     shorten(&mut nodes, built.nodes, 1);
     shorten(&mut edges, built.edges, ROW_WIDTH);
-    Ok(Tables::from_words(nodes, edges))
+    Ok(Tables::built(nodes, edges))
 }
 
 /// Room that a build of some rules can't run out of, up to the limits, if no command is a garden path.

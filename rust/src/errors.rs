@@ -3,8 +3,38 @@
 use std::error::Error;
 use std::fmt;
 
+use crate::numbers::{Label, NodeNo};
 use crate::rules::Rules;
 use crate::words::{Answer, Built, Read, Written};
+
+/// Two rows of an edge table with one key. The library refuses such tables with 8 and says no more, so that they are found out where
+/// [`Tables`](crate::Tables) are made.
+#[derive(Clone, Copy, Debug, PartialEq, Eq, Hash)]
+pub struct KeyTwice {
+    /// The node that both edges leave.
+    pub from: NodeNo,
+    /// What has to be met for either to be followed.
+    pub label: Label,
+    /// The two rows, counted from 0 in the table as it was given.
+    pub rows: [usize; 2],
+}
+
+impl fmt::Display for KeyTwice {
+    fn fmt(&self, f: &mut fmt::Formatter) -> fmt::Result {
+        let [first, second] = self.rows;
+        let (kind, symbol) = match self.label {
+            Label::Constant(symbol) => ("constant", symbol),
+            Label::Slot(typecode) => ("slot", typecode),
+        };
+        write!(
+            f,
+            "rows {first} and {second} are both the edge of node {} for the {kind} {symbol}",
+            self.from
+        )
+    }
+}
+
+impl Error for KeyTwice {}
 
 /// Why a build was refused. A refused build leaves nothing behind.
 #[derive(Clone, Copy, Debug, PartialEq, Eq, Hash)]

@@ -32,7 +32,7 @@ impl Grammar {
         GrammarBuilder::new(rules)
     }
 
-    /// Rules with tables that come from outside. Nothing is asked of either: the library checks both at each parse, and refuses bad ones with
+    /// Rules with tables that come from outside. Nothing more is asked of either: the library checks both at each parse, and refuses bad ones with
     /// [`ParseError::BadRules`] or [`ParseError::BadTables`]. Whatever the tables are, a formula that a parse accepts is well typed over the rules
     /// and spells its statement.
     pub fn with_tables(rules: Rules, tables: Tables) -> Grammar {

@@ -69,7 +69,7 @@ mod tables;
 pub mod words;
 
 pub use commands::{Command, GrammarBuilder};
-pub use errors::{BuildError, ParseError, ReadError, RefusedRules, VerifyError, WriteError};
+pub use errors::{BuildError, KeyTwice, ParseError, ReadError, RefusedRules, VerifyError, WriteError};
 pub use formula::{Formula, Preorder, Subtree, Tree};
 pub use grammar::Grammar;
 pub use numbers::{Item, Label, NodeNo, NotASymbol, RuleNo, Symbol, Variable};

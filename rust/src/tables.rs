@@ -1,9 +1,11 @@
 //! The tree's two tables, as words and as what the words say.
 
+use crate::errors::KeyTwice;
 use crate::limits::{MOST_REDUCES, ROW_WIDTH};
 use crate::numbers::{Label, NodeNo, RuleNo};
 
-/// Nodes and edges of a tree, made by a build or brought from outside.
+/// Nodes and edges of a tree, made by a build or brought from outside. The rows of the edges rise by their keys: the node that an edge leaves, then
+/// the label, constants before slots.
 #[derive(Clone, Debug, PartialEq, Eq)]
 pub struct Tables {
     nodes: Vec<u32>,
@@ -42,12 +44,16 @@ pub struct Edge {
 }
 
 impl Tables {
-    /// Tables from outside, of any words. Whoever parses with them has them checked.
-    pub fn from_words(nodes: impl Into<Vec<u32>>, edges: impl Into<Vec<u32>>) -> Tables {
-        Tables {
-            nodes: nodes.into(),
-            edges: edges.into(),
-        }
+    /// Tables from outside, of any words. The rows of the edges may stand in any order and are put in that of their keys; two rows with one key are
+    /// refused here, and all else that tables can be refused for with 8 is found by whoever parses with them.
+    pub fn from_words(nodes: impl Into<Vec<u32>>, edges: impl Into<Vec<u32>>) -> Result<Tables, KeyTwice> {
+        let edges = in_order(&edges.into())?;
+        Ok(Tables::built(nodes.into(), edges))
+    }
+
+    /// Tables whose rows are in order.
+    pub(crate) fn built(nodes: Vec<u32>, edges: Vec<u32>) -> Tables {
+        Tables { nodes, edges }
     }
 
     /// The words of the nodes, one for each.
@@ -72,6 +78,37 @@ impl Tables {
     pub fn edges(&self) -> impl Iterator<Item = Edge> + '_ {
         self.edges.chunks_exact(ROW_WIDTH).map_while(edge)
     }
+}
+
+/// From, kind and symbol, as numbers.
+fn key(row: &[u32]) -> Option<&[u32]> {
+    row.get(..3)
+}
+
+/// The rows in the order of their keys, and behind them what is no whole row. Rows whose words say no label may have one key: they are bad anyway.
+fn in_order(edges: &[u32]) -> Result<Vec<u32>, KeyTwice> {
+    let rows = edges.chunks_exact(ROW_WIDTH);
+    let rest = rows.remainder();
+    let mut rows: Vec<(usize, &[u32])> = rows.enumerate().collect();
+    // rows with one key stay as they stood
+    rows.sort_by_key(|(_, row)| key(row));
+    let twice = rows.windows(2).find_map(|pair| match *pair {
+        [(first, row), (second, other)] if key(row) == key(other) => key_twice(row, [first, second]),
+        _ => None,
+    });
+    match twice {
+        Some(twice) => Err(twice),
+        None => Ok(rows.iter().flat_map(|(_, row)| *row).chain(rest).copied().collect()),
+    }
+}
+
+fn key_twice(row: &[u32], rows: [usize; 2]) -> Option<KeyTwice> {
+    let &[from, kind, symbol, ..] = row else { return None };
+    Some(KeyTwice {
+        from: NodeNo(from),
+        label: Label::from_words([kind, symbol])?,
+        rows,
+    })
 }
 
 /// The edge of a row: from, kind, symbol, to, the count of reduces, then a rule and an offset for each.

@@ -30,7 +30,7 @@ use Rattle.tree.specs.declared.Room as lent
 use Rattle.garden.specs.Garden.{theCommands}
 use Rattle.garden.specs.Garden as garden
 use Rattle.garden.specs.Code.{boundsOf}
-use Rattle.desk.specs.Entry.{Built, notBuilt, buildRoom, gardenBounds, builtBy, buildAfter, buildGives, Asked, Lent, parsed, theTables, parseDemands, walkAfter, walkOf, verifyDemands, verifyGives}
+use Rattle.desk.specs.Entry.{Built, notBuilt, buildRoom, gardenBounds, builtBy, buildAfter, buildGives, Asked, Lent, parsed, parseDemands, walkAfter, walkOf, verifyDemands, verifyGives}
 use Rattle.desk.specs.Code.{builtIs, Raised, parsedIs, Tried}
 use Rattle.desk.specs.declared.Answer.{Answer}
 use Rattle.desk.specs.declared.Made.{Made}
@@ -171,11 +171,6 @@ module _ (q : Asked) (a : ℕ) (m : passes.Room) where
   unfolding walkOf
   tried-fault k list e z = rw (← e, refused-by k z)
       (record { number = refl; place = refl; counted = refl; passes = refl; within = omega arith; listed = refl })
-
-  pub walk-goes : firstFault (parseDemands q) ≡ 0
-      → walk (theTables (q .rules) (q .nodes) (q .edges)) (q .provable) (q .logic) a m (q .tokens) ≡ walkOf q a m
-  unfolding walkOf walkAfter
-  walk-goes h = rw h
 
 -- what the walk answered, as what is answered
 pub tried-walk : (o w : Walked) (r : walked.Walked) (list : List ℕ) → Answers r list o → o ≡ w

@@ -1,4 +1,5 @@
 pub mod Starred
 pub mod Examples
 pub mod Promises
+pub mod Ordered
 pub mod Packages

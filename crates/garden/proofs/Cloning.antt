@@ -6,22 +6,23 @@ use mathlib.Core.Option.{Option, some, none}
 use Prim.Native.Nat.{ℕ, zero, suc, _+_, _*_, _-_, _/_, _≤_, _<_}
 use native.Mathlib.Numerals.{add-one}
 use native.Mathlib.Omega.{arith}
-use lib.ListN.{length, take, length-append, length-map}
+use lib.ListN.{length, take, length-map}
 use lib.Seq.{length-take-le, take-at, drop-at}
 use borrow.Author.Tests.{lt-ltb, le-ltb}
 use Rattle.words.specs.Limits.{mostEdges, mostTaken, rowWidth, mostReduces}
 use Rattle.words.specs.Outcome.{Res, ok, no, bind, when, pick}
 use Rattle.words.specs.Numbers.{Fault, manyRows}
 use Rattle.rules.specs.laws.Every.{All, all-map}
-use Rattle.rows.specs.Rows.{Edge, edgeOf, rowWords}
+use Rattle.rows.specs.Rows.{Edge, edgeOf, rowsFrom, rowWords}
 use Rattle.rows.specs.Code.{edgeIs, Holds, rowAt, written}
 use Rattle.rows.specs.laws.Words.{row-length, row-back}
-use Rattle.rows.specs.laws.Lookup.{same-rows, written-length}
+use Rattle.rows.specs.laws.Lookup.{same-rows}
+use Rattle.rows.specs.laws.Put.{written-length}
 use Rattle.rows.specs.declared.Edge as held
 use Rattle.rows.specs.declared.Found.{Found}
 use Rattle.rows.specs.declared.Found.the-variants.{Row, Nothing}
 use Rattle.tree.specs.Grow.{Grown, Room}
-use Rattle.tree.specs.Code.{roomOf, faultOf, grownOf, edgesIn, Stands, Meets}
+use Rattle.tree.specs.Code.{roomOf, faultOf, grownOf, Stands, Meets}
 use Rattle.tree.specs.declared.Counts.{Counts}
 use Rattle.tree.specs.declared.Room as lent
 use Rattle.tree.specs.declared.Fault as why
@@ -30,16 +31,14 @@ use Rattle.tree.specs.declared.Grew.{Grew}
 use Rattle.tree.specs.declared.Grew.the-variants.{On, Refused}
 use Rattle.tree.proofs.Laws.{row-readable, read-leads}
 use Rattle.garden.specs.Garden.{Bounds, Cloning, Begun, Taken, takeUp, begin, clones, cloneBranches}
-use Rattle.garden.specs.Code.{restFrom, rowOfPlace, NextAt, Nexts, cloningOf, takenOf, StillTaken, Takes, frameIs, begunOf, framesIn, begunIn, FrameOk, boundsOf, Staged, stageOf, turnedOf, turnsLeft, Turns, firstFrame, Begins, taking, CanBegin, AfterRow}
-use Rattle.garden.specs.laws.Adds.{Extends, adds-ok, tablesOf, take-adds}
-use Rattle.garden.specs.laws.Standing.{row-of-place, rest-all}
+use Rattle.garden.specs.Code.{restFrom, NextAt, Nexts, Kept, Keeps, cloningOf, takenOf, StillTaken, Takes, frameIs, begunOf, framesIn, begunIn, FrameOk, boundsOf, Staged, stageOf, turnedOf, turnsLeft, Turns, firstFrame, Begins, taking, CanBegin, AfterRow}
 use Rattle.garden.specs.declared.row.Taken as row
 use Rattle.garden.specs.declared.clones.Frame as held-frame
 use Rattle.garden.specs.declared.clones.Stage.{Stage}
 use Rattle.garden.specs.declared.clones.Turned.{Turned}
 use Rattle.garden.specs.declared.clones.Turned.the-variants as turned
 use Rattle.garden.proofs.Carried.{carried-few}
-use Rattle.garden.proofs.Copying.{rows-grown, still-first}
+use Rattle.garden.proofs.Copying.{stood-kept, rest-all}
 
 -- ---- after a row, by what came of it
 
@@ -58,25 +57,15 @@ can-begin g e c h k = rw h at k
 
 -- ---- the rows that stood
 
--- rows are read as they were, and no count falls
-module _ (z : lent.Room) (c c′ : Counts) (ns es ns′ es′ : List ℕ) (s : Stands z c ns es) (s′ : Stands z c′ ns′ es′) (x : Extends (grownOf c ns es) (grownOf c′ ns′ es′)) where
-  pub nodes-grow : c .nodes ≤ c′ .nodes
-  nodes-grow = omega (
-    arith,
-    ap length (x .nodes),
-    length-append (take (c .nodes) ns) (x .more-nodes),
-    length-take-le (c .nodes) ns (omega (arith, s .within, s .fits)),
-    length-take-le (c′ .nodes) ns′ (omega (arith, s′ .within, s′ .fits)),
-  )
-
+module _ (c c′ : Counts) (es es′ : List ℕ) (x : Kept c es c′ es′) where
   -- what the frames say is the same
-  pub frames-stay : (l : List Edge) → All (FrameOk c) l → map (begunOf es′) l ≡ map (begunOf es) l
+  pub frames-stay : (l : List Edge) → All (FrameOk c) l → map (begunOf (rowsFrom (c′ .edges) es′)) l ≡ map (begunOf (rowsFrom (c .edges) es)) l
   frames-stay [] a = refl
-  frames-stay (f ∷ l) a = rw (still-first z c es (s .rowed) c′ es′ (s′ .rowed) (x .more-edges) (x .edges) (f .kind) (a .0 .stood-in), frames-stay l (a .1))
+  frames-stay (f ∷ l) a = rw (stood-kept c es c′ es′ x (f .from) (f .kind) (f .sym) (a .0 .stood-in), frames-stay l (a .1))
 
   pub frames-still : (l : List Edge) → All (FrameOk c) l → All (FrameOk c′) l
   frames-still l a = all-map (FrameOk c) (FrameOk c′)
-      (λ f o. record { to-in = omega (arith, o .to-in, nodes-grow); stood-in = omega (arith, o .stood-in, rows-grown z c es (s .rowed) c′ es′ (s′ .rowed) (x .more-edges) (x .edges)); few = o .few }) l a
+      (λ f o. record { to-in = omega (arith, o .to-in, x .nodes); stood-in = omega (arith, o .stood-in, x .edges); few = o .few }) l a
 
 -- ---- frames, written and read
 
@@ -146,9 +135,9 @@ module _ (b : Bounds) (t k : ℕ) (g : Grown) where
 -- a stage whose counts stand, and another clone
 module _ (z : lent.Room) (b : Bounds) (t : ℕ) (s : Stage) (e : held.Edge) (ns es fs gs : List ℕ) (o : Staged z t s ns es fs) (wide : b .frames ≡ length fs / rowWidth) where
   abbrev pub begunThen : Res Fault Grown
-  begunThen = bind (begin (b .frames) (grownOf (s .counts) ns es) (some (cloningOf e)) (begunIn es (s .depth) fs)) λ cs. clones b t (s .left) cs (grownOf (s .counts) ns es)
+  begunThen = bind (begin (b .frames) (grownOf (s .counts) ns es) (some (cloningOf e)) (begunIn (rowsFrom (s .counts .edges) es) (s .depth) fs)) λ cs. clones b t (s .left) cs (grownOf (s .counts) ns es)
 
-  many : length (begunIn es (s .depth) fs) ≡ s .depth
+  many : length (begunIn (rowsFrom (s .counts .edges) es) (s .depth) fs) ≡ s .depth
   many = rw length-map (frames-count (s .depth) fs)
 
   pub begin-refused : (y : why.Fault) → Begins s e (turned.Refused y) fs gs → no (faultOf y) ≡ begunThen
@@ -161,7 +150,7 @@ module _ (z : lent.Room) (b : Bounds) (t : ℕ) (s : Stage) (e : held.Edge) (ns 
 
     pub begin-goes-on : stageOf b t v ns es gs ≡ begunThen
     unfolding bind begin when
-    begin-goes-on = rw (h .1, new-frames, rest-all, many, wide, lt-ltb (s .depth) (length fs / 16) (h .0))
+    begin-goes-on = rw (h .1, new-frames, rest-all z (s .counts) es (o .stands .rowed) (e .from .0), many, wide, lt-ltb (s .depth) (length fs / 16) (h .0))
 
     pub begin-staged : Staged z t v ns es gs
     begin-staged =
@@ -176,7 +165,7 @@ module _ (z : lent.Room) (b : Bounds) (t : ℕ) (s : Stage) (e : held.Edge) (ns 
 
 -- ---- the clone on top takes up its next row
 
--- the frame, with the place of the row after it
+-- the frame, with so many rows taken up
 abbrev pub movedTo : held-frame.Frame → ℕ → held-frame.Frame
 movedTo f p = record { clone = f .clone; stood = f .stood; place = p }
 
@@ -190,48 +179,45 @@ module _ (z : lent.Room) (t : ℕ) (s : Stage) (f : held-frame.Frame) (ns es fs 
   frames-ok = rw frames-are at (o .frames)
 
   -- it is done
-  pub top-done : restFrom (f .clone .from .0) (f .place) (edgesIn (f .stood) es) ≡ []
+  pub top-done : restFrom (f .clone .from .0) (f .stood) (f .place) (rowsFrom (s .counts .edges) es) ≡ []
       → let b = boundsOf z (length fs) in
       Turns z b t (turnsLeft s) (stageOf b t s ns es fs) (turned.On (record { counts = s .counts; depth = s .depth - 1; left = s .left })) ns es fs
   top-done e = record {
-    answer = rw frames-are (sym (clone-done _ t (s .left) _ (begunOf es (frameIs f)) _ e));
+    answer = rw frames-are (sym (clone-done _ t (s .left) _ (begunOf (rowsFrom (s .counts .edges) es) (frameIs f)) _ e));
     staged = (
       record { stands = o .stands; shadow-in = o .shadow-in; few = o .few; depth-in = omega (arith, o .depth-in); frames = frames-ok .1 },
       omega arith,
     );
   }
 
-  module _ (at : ℕ) (x : NextAt (f .clone .from .0) (f .stood) es (f .place) at) where
-    pub row-in : rowOfPlace (f .stood) at < s .counts .edges
-    row-in = omega (arith, row-of-place (f .stood) at (x .within), frames-ok .0 .stood-in)
-
+  module _ (at : ℕ) (x : NextAt (s .counts) (f .clone .from .0) (f .stood) (f .place) es at) where
     pub many-taken : s .left ≡ 0
         → let b = boundsOf z (length fs) in
         Turns z b t (turnsLeft s) (stageOf b t s ns es fs) (turned.Refused code.ManyRows) ns es fs
-    many-taken e = record { answer = rw frames-are (sym (clone-many _ t (s .left) _ (begunOf es (frameIs f)) _ _ _ (x .rows) e)); staged = tt }
+    many-taken e = record { answer = rw frames-are (sym (clone-many _ t (s .left) _ (begunOf (rowsFrom (s .counts .edges) es) (frameIs f)) _ _ _ (x .rows) e)); staged = tt }
 
-    module _ (h : held.Edge) (reads : Holds h (edgeOf (rowAt es (rowOfPlace (f .stood) at)))) (u : row.Taken) (ns′ es′ : List ℕ)
+    module _ (h : held.Edge) (reads : Holds h (edgeOf (rowAt es at))) (u : row.Taken) (ns′ es′ : List ℕ)
         (w : Takes z (takeUp (roomOf z) t (f .clone .to .0) (edgeIs (f .clone) .reduces) (grownOf (s .counts) ns es) (edgeIs h)) u ns′ es′)
-        (few : f .clone .count ≤ mostReduces) (left : 0 < s .left) where
+        (v : Keeps (s .counts) es (u .grew) es′) (few : f .clone .count ≤ mostReduces) (left : 0 < s .left) where
       abbrev pub framesAfter : List ℕ
-      framesAfter = written fs (s .depth - 1) (frameIs (movedTo f (at + 1)))
+      framesAfter = written fs (s .depth - 1) (frameIs (movedTo f (f .place + 1)))
 
       abbrev restAfter : Taken → Res Fault Grown
-      restAfter u = bind (begin (length fs / rowWidth) (u .grown) (u .next) (begunOf es (frameIs (movedTo f (at + 1))) ∷ begunIn es (s .depth - 1) fs))
+      restAfter u = bind (begin (length fs / rowWidth) (u .grown) (u .next) (begunOf (rowsFrom (s .counts .edges) es) (frameIs (movedTo f (f .place + 1))) ∷ begunIn (rowsFrom (s .counts .edges) es) (s .depth - 1) fs))
           λ cs. clones (boundsOf z (length fs)) t (s .left - 1) cs (u .grown)
 
       stage-is : stageOf (boundsOf z (length fs)) t s ns es fs ≡ bind (takenOf u ns′ es′) restAfter
-      stage-is = rw (frames-are, w .answer, reads .says) (clone-step _ t (s .left) _ (begunOf es (frameIs f)) _ _ _ (x .rows) (s .left - 1) (omega arith))
+      stage-is = rw (frames-are, w .answer, reads .says) (clone-step _ t (s .left) _ (begunOf (rowsFrom (s .counts .edges) es) (frameIs f)) _ _ _ (x .rows) (s .left - 1) (omega arith))
 
       same-length : length framesAfter ≡ length fs
-      same-length = written-length fs (s .depth - 1) (frameIs (movedTo f (at + 1))) (omega (arith, o .depth-in))
+      same-length = written-length fs (s .depth - 1) (frameIs (movedTo f (f .place + 1))) (omega (arith, o .depth-in))
 
-      frames-after : framesIn (s .depth) framesAfter ≡ frameIs (movedTo f (at + 1)) ∷ framesIn (s .depth - 1) fs
+      frames-after : framesIn (s .depth) framesAfter ≡ frameIs (movedTo f (f .place + 1)) ∷ framesIn (s .depth - 1) fs
       frames-after =
           let one : s .depth - 1 + 1 ≡ s .depth = omega arith in
-          rw one at (frame-written fs (s .depth - 1) (frameIs (movedTo f (at + 1))) (omega (arith, o .depth-in)) (carried-few (f .clone) few))
+          rw one at (frame-written fs (s .depth - 1) (frameIs (movedTo f (f .place + 1))) (omega (arith, o .depth-in)) (carried-few (f .clone) few))
 
-      still-ok : FrameOk (s .counts) (frameIs (movedTo f (at + 1))) × All (FrameOk (s .counts)) (framesIn (s .depth - 1) fs)
+      still-ok : FrameOk (s .counts) (frameIs (movedTo f (f .place + 1))) × All (FrameOk (s .counts)) (framesIn (s .depth - 1) fs)
       still-ok = (record { to-in = frames-ok .0 .to-in; stood-in = frames-ok .0 .stood-in; few = frames-ok .0 .few }, frames-ok .1)
 
       module _ (c : Counts) (q : u .grew ≡ On c) where
@@ -241,23 +227,23 @@ module _ (z : lent.Room) (t : ℕ) (s : Stage) (f : held-frame.Frame) (ns es fs 
         abbrev nextOf : Option Cloning
         nextOf = pick (u .begins) (some (cloningOf (u .next))) none
 
-        more : Extends (grownOf (s .counts) ns es) (grownOf c ns′ es′)
-        more = adds-ok (grownOf (s .counts) ns es) tablesOf _ (record { grown = grownOf c ns′ es′; next = nextOf }) (take-adds (roomOf z) t (f .clone .to .0) (edgeIs (f .clone) .reduces) (grownOf (s .counts) ns es) (edgeIs h)) (sym (rw q at (w .answer)))
+        more : Kept (s .counts) es c es′
+        more = rw q at v
 
-        begun-after : begunIn es′ (s .depth) framesAfter ≡ begunOf es (frameIs (movedTo f (at + 1))) ∷ begunIn es (s .depth - 1) fs
-        begun-after = rw frames-after (frames-stay z (s .counts) c ns es ns′ es′ (o .stands) (stands-after .0) more (frameIs (movedTo f (at + 1)) ∷ framesIn (s .depth - 1) fs) still-ok)
+        begun-after : begunIn (rowsFrom (c .edges) es′) (s .depth) framesAfter ≡ begunOf (rowsFrom (s .counts .edges) es) (frameIs (movedTo f (f .place + 1))) ∷ begunIn (rowsFrom (s .counts .edges) es) (s .depth - 1) fs
+        begun-after = rw frames-after (frames-stay (s .counts) c es es′ more (frameIs (movedTo f (f .place + 1)) ∷ framesIn (s .depth - 1) fs) still-ok)
 
         staged-after : Staged z t (taking s c) ns′ es′ framesAfter
         staged-after = record {
           stands = stands-after .0;
-          shadow-in = omega (arith, o .shadow-in, nodes-grow z (s .counts) c ns es ns′ es′ (o .stands) (stands-after .0) more);
+          shadow-in = omega (arith, o .shadow-in, more .nodes);
           few = o .few;
           depth-in = rw same-length (o .depth-in);
-          frames = rw frames-after (frames-still z (s .counts) c ns es ns′ es′ (o .stands) (stands-after .0) more (frameIs (movedTo f (at + 1)) ∷ framesIn (s .depth - 1) fs) still-ok);
+          frames = rw frames-after (frames-still (s .counts) c es es′ more (frameIs (movedTo f (f .place + 1)) ∷ framesIn (s .depth - 1) fs) still-ok);
         }
 
         goes-on : stageOf (boundsOf z (length fs)) t s ns es fs
-            ≡ bind (begin (length fs / rowWidth) (grownOf c ns′ es′) nextOf (begunIn es′ (s .depth) framesAfter)) (λ cs. clones (boundsOf z (length fs)) t (s .left - 1) cs (grownOf c ns′ es′))
+            ≡ bind (begin (length fs / rowWidth) (grownOf c ns′ es′) nextOf (begunIn (rowsFrom (c .edges) es′) (s .depth) framesAfter)) (λ cs. clones (boundsOf z (length fs)) t (s .left - 1) cs (grownOf c ns′ es′))
         unfolding bind
         goes-on = stage-is ∙ rw (q, begun-after)
 
@@ -297,50 +283,44 @@ module _ (z : lent.Room) (t : ℕ) (s : Stage) (ns es fs : List ℕ) (o : Staged
       (omega (arith, o .depth-in), a .0 .few)
 
   module _ (f : held-frame.Frame) (top : frameIs f ≡ edgeOf (rowAt fs (s .depth - 1))) where
-    pub top-stood : (rowWidth * f .stood ≤ length es) × (f .stood ≤ mostEdges)
-    top-stood =
-        let h = frames-ok z t s f ns es fs o deep top .0 .stood-in in
-        (omega (arith, h, o .stands .rowed .within, o .stands .rowed .fits), omega (arith, h, o .stands .rowed .within, o .few))
+    stood-low : f .stood ≤ mostEdges
+    stood-low = omega (arith, frames-ok z t s f ns es fs o deep top .0 .stood-in, o .stands .rowed .within, o .few)
 
-    module _ (few : f .clone .count ≤ mostReduces) (at : ℕ) (x : NextAt (f .clone .from .0) (f .stood) es (f .place) at) where
-      pub frame-fits : (s .depth - 1 < length fs / rowWidth) × (f .clone .count ≤ mostReduces) × (f .stood ≤ mostEdges) × (at + 1 ≤ 2 * mostEdges)
-      frame-fits = (omega (arith, o .depth-in), few, top-stood .1, omega (arith, top-stood .1, x .within))
+    module _ (few : f .clone .count ≤ mostReduces) (at : ℕ) (x : NextAt (s .counts) (f .clone .from .0) (f .stood) (f .place) es at) where
+      pub frame-fits : (s .depth - 1 < length fs / rowWidth) × (f .clone .count ≤ mostReduces) × (f .stood ≤ mostEdges) × (f .place + 1 ≤ mostEdges)
+      frame-fits = (omega (arith, o .depth-in), few, stood-low, omega (arith, x .after, x .within, o .stands .rowed .within, o .few))
 
-      module _ (i : ℕ) (e : i ≡ rowOfPlace (f .stood) at) where
-        is-in : i < s .counts .edges
-        is-in = rw e (row-in z t s f ns es fs o deep top at x)
+      pub next-readable : (at < length es / rowWidth) × (length (edgeOf (rowAt es at) .reduces) ≤ mostReduces)
+      next-readable = row-readable z (s .counts) es at (o .stands .rowed) (x .within)
 
-        pub next-readable : (i < length es / rowWidth) × (length (edgeOf (rowAt es i) .reduces) ≤ mostReduces)
-        next-readable = row-readable z (s .counts) es i (o .stands .rowed) is-in
+      module _ (h : held.Edge) (reads : Holds h (edgeOf (rowAt es at))) where
+        pub row-fits : Stands z (s .counts) ns es × (z .edges ≤ mostEdges) × (t < s .counts .nodes) × (f .clone .to .0 < s .counts .nodes)
+            × (f .clone .count ≤ mostReduces) × (h .to .0 < s .counts .nodes) × (h .count ≤ mostReduces)
+        row-fits = (
+          o .stands,
+          o .few,
+          o .shadow-in,
+          frames-ok z t s f ns es fs o deep top .0 .to-in,
+          few,
+          read-leads z (s .counts) es at h (o .stands .rowed) (x .within) reads,
+          reads .fits,
+        )
 
-        module _ (h : held.Edge) (reads : Holds h (edgeOf (rowAt es i))) where
-          pub row-fits : Stands z (s .counts) ns es × (z .edges ≤ mostEdges) × (t < s .counts .nodes) × (f .clone .to .0 < s .counts .nodes)
-              × (f .clone .count ≤ mostReduces) × (h .to .0 < s .counts .nodes) × (h .count ≤ mostReduces)
-          row-fits = (
-            o .stands,
-            o .few,
-            o .shadow-in,
-            frames-ok z t s f ns es fs o deep top .0 .to-in,
-            few,
-            read-leads z (s .counts) es i h (o .stands .rowed) is-in reads,
-            reads .fits,
-          )
-
-          -- and what comes of it
-          pub row-turned : (u : row.Taken) (ns′ es′ gs : List ℕ)
-              → Takes z (takeUp (roomOf z) t (f .clone .to .0) (edgeIs (f .clone) .reduces) (grownOf (s .counts) ns es) (edgeIs h)) u ns′ es′
-              → 0 < s .left → gs ≡ written fs (s .depth - 1) (frameIs (movedTo f (at + 1))) → (r : Turned) (hs : List ℕ) → AfterRow s (u .grew) (u .begins) (u .next) r gs hs
-              → let b = boundsOf z (length fs) in
-              Turns z b t (turnsLeft s) (stageOf b t s ns es fs) r ns′ es′ hs
-          row-turned u ns′ es′ gs w left q r hs k =
-              row-turns z t s f ns es fs o deep top at x h (rw e at reads) u ns′ es′ w few left (u .grew) (u .begins) r hs refl refl (rw q at k)
+        -- and what comes of it
+        pub row-turned : (u : row.Taken) (ns′ es′ gs : List ℕ)
+            → Takes z (takeUp (roomOf z) t (f .clone .to .0) (edgeIs (f .clone) .reduces) (grownOf (s .counts) ns es) (edgeIs h)) u ns′ es′ × Keeps (s .counts) es (u .grew) es′
+            → 0 < s .left → gs ≡ written fs (s .depth - 1) (frameIs (movedTo f (f .place + 1))) → (r : Turned) (hs : List ℕ) → AfterRow s (u .grew) (u .begins) (u .next) r gs hs
+            → let b = boundsOf z (length fs) in
+            Turns z b t (turnsLeft s) (stageOf b t s ns es fs) r ns′ es′ hs
+        row-turned u ns′ es′ gs w left q r hs k =
+            row-turns z t s f ns es fs o deep top at x h reads u ns′ es′ (w .0) (w .1) few left (u .grew) (u .begins) r hs refl refl (rw q at k)
 
 -- what a search for the next row says
-module _ (n k : ℕ) (ws : List ℕ) (p : ℕ) (r : Found) (h : Nexts n k ws p r) where
-  pub a-row : (i : ℕ) → r ≡ Row i → NextAt n k ws p i
+module _ (c : Counts) (n k p : ℕ) (ws : List ℕ) (r : Found) (h : Nexts c n k p ws r) where
+  pub a-row : (i : ℕ) → r ≡ Row i → NextAt c n k p ws i
   a-row i e = rw e at h
 
-  pub no-row : r ≡ Nothing → restFrom n p (edgesIn k ws) ≡ []
+  pub no-row : r ≡ Nothing → restFrom n k p (rowsFrom (c .edges) ws) ≡ []
   no-row e = rw e at h
 
 -- ---- turn after turn
@@ -387,7 +367,7 @@ module _ (z : lent.Room) (t : ℕ) (s₀ : Stage) (ns₀ es₀ fs₀ : List ℕ)
   pub turning-end : s .depth ≡ 0 → Meets z whole (On (s .counts)) ns es
   unfolding framesIn
   turning-end e = record {
-    answer = sym (none-left (boundsOf z (length fs₀)) t (s .left) (grownOf (s .counts) ns es) (begunIn es (s .depth) fs) (rw e)) ∙ l .same;
+    answer = sym (none-left (boundsOf z (length fs₀)) t (s .left) (grownOf (s .counts) ns es) (begunIn (rowsFrom (s .counts .edges) es) (s .depth) fs) (rw e)) ∙ l .same;
     stands = l .staged .stands;
   }
 

@@ -14,14 +14,14 @@ use Rattle.words.specs.Outcome.{Res, ok, no, bind, pick}
 use Rattle.words.specs.Numbers.{Fault, badCopy}
 use Rattle.rules.specs.Rules.{Rule}
 use Rattle.tree.specs.Grow.{Grown, plant, convertAll}
-use Rattle.tree.specs.Code.{roomOf, faultOf, grownOf, grewOf, Stands, Rows, Meets, Grows}
+use Rattle.tree.specs.Code.{roomOf, faultOf, grownOf, grewOf, Stands, Rows, Meets}
 use Rattle.tree.specs.declared.Counts.{Counts}
 use Rattle.tree.specs.declared.Room as lent
 use Rattle.tree.specs.declared.Grew.{Grew}
 use Rattle.tree.specs.declared.Grew.the-variants.{On, Refused}
 use Rattle.tree.specs.declared.Fault as why-of
 use Rattle.tree.specs.declared.Fault.the-variants as why
-use Rattle.tree.proofs.Laws.{rows-count, both-stand, on-then, refused-then}
+use Rattle.tree.proofs.Laws.{both-stand, on-then, refused-then}
 use Rattle.garden.specs.Garden.{goodPairs, pairsOf, prefixWords, shadowWords, pathSize, goodPath, Command, conversions, path, bad, commandOf, commandSize, Pair, commandsOf, theCommands, handleCommonPrefixes, handleCommand, handleCommands, isConversions, asked, convertLast, tend, build}
 use Rattle.garden.specs.Code.{boundsOf, commandIs, CommandIn, Sized, AskedFor, Handles}
 use Rattle.garden.specs.laws.Pairs.{pairs-count}
@@ -287,28 +287,12 @@ module _ (z : lent.Room) (n : ℕ) (R : List Rule) (cs : List Command) (g : Grow
 
 -- ---- the whole
 
-meets-grows : (z : lent.Room) (x : Res Fault Grown) (r : Grew) (ns es : List ℕ) → Meets z x r ns es → Grows z x r ns es
-meets-grows z x (Refused y) ns es m = sym (m .answer)
-meets-grows z x (On c) ns es m =
-    let s : Stands z c ns es = m .stands in
-    record {
-      tree = grownOf c ns es;
-      grows = sym (m .answer);
-      node-count = sym (length-take-le (c .nodes) ns (omega (arith, s .within, s .fits)));
-      edge-count = sym (rows-count z c es (s .rowed));
-      nodes-in = s .within;
-      edges-in = s .rowed .within;
-      nodes = refl;
-      edges = sym (s .rowed .words);
-    }
-
 module _ (z : lent.Room) (n : ℕ) (R : List Rule) (cs : List Command) (r : Grew) (ns es : List ℕ) (m : Meets z (plant (roomOf z) R) r ns es) where
-  pub none-built : (y : why-of.Fault) → r ≡ Refused y → build (boundsOf z n) R cs ≡ no (faultOf y)
+  pub none-built : (y : why-of.Fault) → r ≡ Refused y → Meets z (build (boundsOf z n) R cs) (Refused y) ns es
   unfolding build
-  none-built y q = refused-then r ns es _ (m .answer) y q _
+  none-built y q = record { answer = sym (refused-then r ns es _ (m .answer) y q _); stands = tt }
 
   pub all-built : (c : Counts) → r ≡ On c → (x : Grew) (ns′ es′ : List ℕ) → Meets z (tend (boundsOf z n) R cs (grownOf c ns es)) x ns′ es′
-      → Grows z (build (boundsOf z n) R cs) x ns′ es′
+      → Meets z (build (boundsOf z n) R cs) x ns′ es′
   unfolding build
-  all-built c q x ns′ es′ k =
-      meets-grows z _ x ns′ es′ (record { answer = k .answer ∙ sym (on-then r ns es _ (m .answer) c q _); stands = k .stands })
+  all-built c q x ns′ es′ k = record { answer = k .answer ∙ sym (on-then r ns es _ (m .answer) c q _); stands = k .stands }

@@ -18,14 +18,14 @@ use Rattle.rows.specs.Code.{edgeIs, Holds, rowAt}
 use Rattle.rows.specs.declared.Edge as held
 use Rattle.rows.specs.declared.Added.{Added}
 use Rattle.tree.specs.Grow.{Grown, branchAt, apart}
-use Rattle.tree.specs.Code.{roomOf, faultOf, grownOf, edgesIn, FoundAt, Rowed, Stands, Rows, Meets}
+use Rattle.tree.specs.Code.{roomOf, faultOf, grownOf, edgesIn, FoundAt, Stands, Rows, Meets}
+use Rattle.tree.specs.laws.Counted.{branch-is, apart-is}
 use Rattle.tree.specs.declared.Counts.{Counts}
 use Rattle.tree.specs.declared.Room as lent
 use Rattle.tree.specs.declared.Fault.the-variants as why
 use Rattle.tree.specs.declared.Grew.{Grew}
 use Rattle.tree.specs.declared.Grew.the-variants.{Refused}
 use Rattle.tree.proofs.Laws.{held-to}
-use Rattle.tree.proofs.Converting.{apart-is}
 use Rattle.garden.specs.Garden.{Pair, pairsOf, goodPairs, Places, Parting, partAt, diffExtend, raisedOn, extend, theEdge, edgeFor, leadsTo, ofKind, moveOn, alongPair, along, cloneWithReduceVec, cloneBranches, shadowed, graftLeaf, graft, graftAt, handleCommonPrefixes}
 use Rattle.garden.specs.Code.{Lists, cloningOf, boundsOf, pairAt, partedOf, reachedOf, ReachedIn, placesOf, alongOf, Placed, Along}
 use Rattle.garden.specs.laws.Pairs.{PairHere, pair-here, pairs-end}
@@ -36,7 +36,6 @@ use Rattle.garden.specs.declared.path.Reached.the-variants as reached
 use Rattle.garden.specs.declared.lists.Listed.{Listed}
 use Rattle.garden.proofs.Carried.{listed, unlisted}
 use Rattle.garden.proofs.Commands.{rows-meet}
-use Rattle.garden.proofs.Taking.{branch-is}
 
 -- ---- an edge that is followed
 
@@ -243,13 +242,13 @@ module _ (c : Counts) (es ws : List ℕ) (n k y : ℕ) (s₀ : held.Edge) (o : H
 -- ---- the copy
 
 -- the second place is a leaf
-module _ (z : lent.Room) (c : Counts) (t : ℕ) (s : held.Edge) (ns es : List ℕ) (r : Rowed z c es) (wide : c .nodes ≤ length ns) (h : t < c .nodes) (p : Placed c s)
+module _ (z : lent.Room) (c : Counts) (t : ℕ) (s : held.Edge) (ns es : List ℕ) (h : t < c .nodes) (p : Placed c s)
     (b : Bool) (q : b ≡ not (eqb t (s .to .0)) && eqb (getD ns t 0) 0 && eqb (getD ns (s .to .0) 0) 0) where
   abbrev grafted : Res Fault Grown
   grafted = graftLeaf (roomOf z) t (placesOf s) (grownOf c ns es)
 
   are-apart : apart (grownOf c ns es) t (s .to .0) ≡ b
-  are-apart = apart-is z c ns es r wide t (s .to .0) h (p .first-in) ∙ sym q
+  are-apart = apart-is c ns es t (s .to .0) h (p .first-in) ∙ sym q
 
   pub graft-bad : b ≡ false → Rows z c grafted (Refused why.BadCopy) ns es
   unfolding graftLeaf bind when

@@ -8,28 +8,39 @@ use native.Mathlib.Numerals.{add-one}
 use native.Mathlib.Omega.{arith}
 use lib.Dec.{eqb, ltb}
 use lib.ListN.{length, take, set, getD, length-append, length-set}
-use lib.Seq.{length-take-le, take-suc-set, getD-take}
+use lib.Seq.{take-suc-set, getD-take}
 use borrow.Author.Tests.{lt-ltb, le-ltb, eq-eqb, ne-eqb}
 use Rattle.words.specs.Limits.{mostReduces}
 use Rattle.words.specs.Outcome.{Res, ok, bind, when}
 use Rattle.words.specs.Numbers.{Fault, noNode, noEdge, sixthReduce, farOffset, badCopy}
-use Rattle.rows.specs.Rows.{Reduce, Edge, edgeOf, find}
+use Rattle.rows.specs.Rows.{Reduce, Edge, edgeOf, insertEdge, find}
 use Rattle.rows.specs.Code.{edgeIs, Holds, rowAt}
 use Rattle.rows.specs.declared.Edge as held
 use Rattle.rows.specs.declared.Added.{Added}
 use Rattle.tree.specs.Grow.{Grown, Room, addEdge, branchAt, apart}
-use Rattle.tree.specs.Code.{roomOf, edgesIn, grownOf, FoundAt, Rowed, Stands, Rows, Meets}
+use Rattle.tree.specs.Code.{roomOf, edgesIn, grownOf, FoundAt, Stands, Rows, Meets}
+use Rattle.tree.specs.laws.Counted.{nodes-count, branch-is, apart-is}
 use Rattle.tree.specs.declared.Counts.{Counts}
 use Rattle.tree.specs.declared.Room as lent
+use Rattle.tree.specs.declared.Fault as why
 use Rattle.tree.specs.declared.Fault.the-variants as code
 use Rattle.tree.specs.declared.Grew.{Grew}
 use Rattle.tree.specs.declared.Grew.the-variants.{On, Refused}
 use Rattle.tree.proofs.Laws.{held-to, both-stand}
-use Rattle.tree.proofs.Converting.{apart-is}
 use Rattle.garden.specs.Garden.{Cloning, Taken, raisedOn, leafReduces, leafRule, takeLeaf, addBranch, storeOther, newBranch, oldBranch, takeBranch, takeBy, takeUp, cloneWithReduceVec}
-use Rattle.garden.specs.Code.{Lists, listedOf, Carries, leafRow, leafRows, cloningOf, Takes}
+use Rattle.garden.specs.Code.{Lists, listedOf, Carries, leafRow, leafRows, Keeps, cloningOf, Takes}
 use Rattle.garden.specs.declared.lists.Listed.{Listed}
 use Rattle.garden.specs.declared.row.Taken as row
+
+-- ---- the rows that stood
+
+-- there is a node more
+pub keeps-less : (c : Counts) (es : List ℕ) (r : Grew) (es′ : List ℕ) → Keeps (record { nodes = c .nodes + 1; edges = c .edges }) es r es′ → Keeps c es r es′
+keeps-less c es (On d) es′ k = record { nodes = omega (arith, k .nodes); edges = k .edges; stood = k .stood }
+keeps-less c es (Refused f) es′ k = tt
+
+pub refused-keeps : (c : Counts) (es es′ : List ℕ) (u : row.Taken) (f : why.Fault) (e : held.Edge) → u ≡ record { grew = Refused f; begins = false; next = e } → Keeps c es (u .grew) es′
+refused-keeps c es es′ u f e q = rw q tt
 
 -- ---- a row to the shadow's node
 
@@ -55,7 +66,7 @@ unfolding addBranch addEdge bind when
 branch-longer z g m e g′ h = go (ltb (length (g .nodes)) (z .nodes)) (ltb (length (g .edges)) (z .edges)) h
   where
     more : ℕ → Grown
-    more k = record { nodes = g .nodes ++ 0 ∷ []; edges = g .edges ++ record { from = m; kind = e .kind; sym = e .sym; to = k; reduces = e .reduces } ∷ [] }
+    more k = record { nodes = g .nodes ++ 0 ∷ []; edges = insertEdge (record { from = m; kind = e .kind; sym = e .sym; to = k; reduces = e .reduces }) (g .edges) }
 
     go : (a b : Bool) → ok g′ ≡ bind (when a noNode (length (g .nodes))) (λ k. when b noEdge (more k)) → length (g′ .nodes) ≡ length (g .nodes) + 1
     go true true h = let s : g′ ≡ more (length (g .nodes)) = cc in ap (λ (g : Grown). length (g .nodes)) s ∙ length-append (g .nodes) (0 ∷ [])
@@ -63,13 +74,10 @@ branch-longer z g m e g′ h = go (ltb (length (g .nodes)) (z .nodes)) (ltb (len
     go false b h = cc
 
 module _ (z : lent.Room) (c : Counts) (ns es : List ℕ) (s : Stands z c ns es) where
-  nodes-count : length (take (c .nodes) ns) ≡ c .nodes
-  nodes-count = length-take-le (c .nodes) ns (omega (arith, s .within, s .fits))
-
   module _ (m : ℕ) (e : held.Edge) where
     pub branch-refused : z .nodes ≤ c .nodes → Meets z (addBranch (roomOf z) (grownOf c ns es) m (edgeIs e)) (Refused code.NoNode) ns es
     unfolding addBranch bind when
-    branch-refused h = record { answer = rw (nodes-count, le-ltb (c .nodes) (z .nodes) h); stands = tt }
+    branch-refused h = record { answer = rw (nodes-count z c ns es s, le-ltb (c .nodes) (z .nodes) h); stands = tt }
 
     pub branch-added : (r : Grew) (es′ : List ℕ)
         → let c′ : Counts = record { nodes = c .nodes + 1; edges = c .edges } in
@@ -82,7 +90,7 @@ module _ (z : lent.Room) (c : Counts) (ns es : List ℕ) (s : Stands z c ns es) 
         let ns′ = set ns (c .nodes) 0 in
         let more : take (c .nodes + 1) ns′ ≡ take (c .nodes) ns ++ 0 ∷ [] = rw (add-one, take-suc-set ns (c .nodes) 0 (omega (arith, s .fits))) in
         record {
-          answer = rw (nodes-count, lt-ltb (c .nodes) (z .nodes) h) (rw more at (rows .answer));
+          answer = rw (nodes-count z c ns es s, lt-ltb (c .nodes) (z .nodes) h) (rw more at (rows .answer));
           stands = both-stand z (c .nodes + 1) r ns′ es′ (omega arith) (omega arith) (simp length-set (s .fits)) (s .few) (rows .rowed);
         }
 
@@ -95,8 +103,8 @@ module _ (z : lent.Room) (c : Counts) (ns es : List ℕ) (s : Stands z c ns es) 
       clone-begins (On d) next w q few =
           let t : Stands z d ns′ es′ = w .stands in
           let longer = branch-longer (roomOf z) (grownOf c ns es) m (edgeIs e) (grownOf d ns′ es′) (w .answer) in
-          let new = length-take-le (d .nodes) ns′ (omega (arith, t .within, t .fits)) in
-          record { answer = rw (← w .answer, nodes-count, q); stands = (t, omega (arith, nodes-count, ap (λ (k : Cloning). k .to) q), few) }
+          let new = nodes-count z d ns′ es′ t in
+          record { answer = rw (← w .answer, nodes-count z c ns es s, q); stands = (t, omega (arith, nodes-count z c ns es s, ap (λ (k : Cloning). k .to) q), few) }
       clone-begins (Refused f) next w q few = record { answer = rw (← w .answer); stands = tt }
 
 -- ---- the branch that is there
@@ -115,22 +123,15 @@ module _ (z : lent.Room) (c : Counts) (ns es : List ℕ) (s : Stands z c ns es) 
   unfolding oldBranch bind
   other-begins next h q to few = record { answer = rw (← w .answer, h, q); stands = (s, omega (arith, ap (λ (k : Cloning). k .to) q), few) }
 
--- ---- whether a node is a branch: the code reads the slice, and the node is one of those counted
-
-module _ (c : Counts) (ns es : List ℕ) where
-  pub branch-is : (n : ℕ) → n < c .nodes → branchAt (grownOf c ns es) n ≡ eqb (getD ns n 0) 0
-  unfolding branchAt
-  branch-is n h = rw (getD-take (c .nodes) ns n 0 h)
-
 -- ---- the rows of the shadow's node
 
-module _ (z : lent.Room) (c : Counts) (ns es : List ℕ) (r : Rowed z c es) (wide : c .nodes ≤ length ns) (t n : ℕ) (l : Listed) (t-in : t < c .nodes) (n-in : n < c .nodes)
+module _ (z : lent.Room) (c : Counts) (ns es : List ℕ) (t n : ℕ) (l : Listed) (t-in : t < c .nodes) (n-in : n < c .nodes)
     (b : Bool) (q : b ≡ not (eqb t n) && eqb (getD ns t 0) 0 && eqb (getD ns n 0) 0) where
   abbrev copied : Res Fault Grown
   copied = leafRows (roomOf z) t n (listedOf l) (grownOf c ns es)
 
   test : apart (grownOf c ns es) t n ≡ b
-  test = apart-is z c ns es r wide t n t-in n-in ∙ sym q
+  test = apart-is c ns es t n t-in n-in ∙ sym q
 
   pub copy-refused : b ≡ false → Rows z c copied (Refused code.BadCopy) ns es
   unfolding bind when
@@ -156,6 +157,13 @@ module _ (z : lent.Room) (c : Counts) (ns es : List ℕ) (t : ℕ) (clone e : he
 
   listed-is : leafReduces (leafRule (grownOf c ns es) (edgeIs e)) (edgeIs e) (edgeIs clone .reduces) ≡ listedOf l
   listed-is = rw (getD-take (c .nodes) ns (e .to .0) 0 to) (sym (w .answer))
+
+  -- the key that is looked up is that of the row
+  pub carried-new : find (edgesIn (c .edges) es) (clone .to .0) (e .kind) (e .symbol .0) ≡ none → find (edgesIn (c .edges) es) (clone .to .0) (l .edge .kind) (l .edge .symbol .0) ≡ none
+  carried-new f =
+      let kind : l .edge .kind ≡ e .kind = ap (λ (e : Edge). e .kind) (w .rest) in
+      let symbol : l .edge .symbol .0 ≡ e .symbol .0 = ap (λ (e : Edge). e .sym) (w .rest) in
+      rw (kind, symbol) f
 
   pub leaf-free : find (edgesIn (c .edges) es) (clone .to .0) (e .kind) (e .symbol .0) ≡ none → (r : Grew) (es′ : List ℕ)
       → Rows z c (leafRow (roomOf z) t (clone .to .0) (l .edge) (listedOf l) (grownOf c ns es)) r ns es′ → Rows z c taken r ns es′
@@ -184,6 +192,9 @@ module _ (z : lent.Room) (c : Counts) (ns es : List ℕ) (t : ℕ) (clone e : he
 module _ (z : lent.Room) (c : Counts) (ns es : List ℕ) (clone e : held.Edge) (a : Added) (w : Lists farOffset (raisedOn (e .kind) (edgeIs clone .reduces)) clone a) where
   abbrev branched : Option Edge → Res Fault Taken
   branched = takeBranch (roomOf z) (clone .to .0) (edgeIs clone .reduces) (grownOf c ns es) (edgeIs e)
+
+  pub raised-new : find (edgesIn (c .edges) es) (clone .to .0) (e .kind) (e .symbol .0) ≡ none → find (edgesIn (c .edges) es) (a .edge .to .0) (e .kind) (e .symbol .0) ≡ none
+  raised-new f = let to : a .edge .to .0 ≡ clone .to .0 = ap (λ (e : Edge). e .to) (w .rest) in rw to f
 
   pub raise-refused : (u : row.Taken) (o : Option Edge) → u ≡ record { grew = Refused code.FarOffset; begins = false; next = e } → a .ok ≡ false → Takes z (branched o) u ns es
   unfolding takeBranch bind

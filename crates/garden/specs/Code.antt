@@ -2,7 +2,7 @@
 use Prim.Native.Nat.{ℕ, zero, suc, _+_, _*_, _-_, _/_, _≤_, _<_}
 use mathlib.Core.Path.{_≡_}
 use mathlib.Core.Logic.{_≢_}
-use mathlib.Core.Bool.{Bool, true, false}
+use mathlib.Core.Bool.{Bool, true, false, _&&_}
 use mathlib.Core.List.{List, [], _∷_, _++_, map}
 use mathlib.Core.Option.{Option, some, none}
 use lib.Dec.{eqb, ltb}
@@ -11,20 +11,20 @@ use Rattle.words.specs.Limits.{mostEdges, mostTaken, rowWidth, mostReduces}
 use Rattle.words.specs.Outcome.{Res, ok, no, bind, when, pick}
 use Rattle.words.specs.Numbers.{Fault, badCopy}
 use Rattle.rules.specs.laws.Every.{All}
-use Rattle.rows.specs.Rows.{Reduce, Edge, edgeOf}
+use Rattle.rows.specs.Rows.{Reduce, Edge, edgeOf, rowsFrom}
 use Rattle.rows.specs.Code.{edgeIs, withReduces, rowAt, written}
 use Rattle.rows.specs.declared.Edge as held
 use Rattle.rows.specs.declared.Added.{Added}
 use Rattle.rows.specs.declared.Found.{Found}
 use Rattle.rows.specs.declared.Found.the-variants.{Row, Nothing}
 use Rattle.tree.specs.Grow.{Grown, Room, addEdge, apart}
-use Rattle.tree.specs.Code.{roomOf, faultOf, grownOf, edgesIn, Stands, Meets}
+use Rattle.tree.specs.Code.{roomOf, faultOf, grownOf, Stands, Meets}
 use Rattle.tree.specs.declared.Counts.{Counts}
 use Rattle.tree.specs.declared.Room as lent
 use Rattle.tree.specs.declared.Grew.{Grew}
 use Rattle.tree.specs.declared.Grew.the-variants.{On, Refused}
 use Rattle.tree.specs.declared.Fault.the-variants as why
-use Rattle.garden.specs.Garden.{Bounds, Pair, pairsOf, goodPairs, Command, conversions, path, bad, commandOf, commandSize, asked, rowsOfKind, cloneWithReduceVec, Cloning, Begun, Taken, clones, Parting, Places}
+use Rattle.garden.specs.Garden.{Bounds, Pair, pairsOf, goodPairs, Command, conversions, path, bad, commandOf, commandSize, asked, cloneWithReduceVec, Cloning, Begun, Taken, clones, Parting, Places}
 use Rattle.garden.specs.declared.lists.Listed.{Listed}
 use Rattle.garden.specs.declared.row.Taken as row
 use Rattle.garden.specs.declared.clones.Frame as held-frame
@@ -66,26 +66,40 @@ pub record Carries (x : Res Fault (List Reduce)) (h : held.Edge) (l : Listed) : 
 
 -- ---- the rows of a node that stood
 
--- of k rows: a place below k is a constant's row, a place past it a variable's
-abbrev pub rowOfPlace : ℕ → ℕ → ℕ
-rowOfPlace k p = pick (ltb p k) p (p - k)
+-- the age of a row, its last word while the tree grows, is how many rows there were when it was put in: here are those that were put in
+-- when there were fewer than k
+unfoldable pub older : ℕ → List (List ℕ) → List (List ℕ)
+older k [] = []
+older k (row ∷ rows) = pick (ltb (getD row 15 0) k) (row ∷ older k rows) (older k rows)
 
-abbrev pub kindOfPlace : ℕ → ℕ → ℕ
-kindOfPlace k p = pick (ltb p k) 0 1
+-- and of those the edges that leave node n
+unfoldable pub stoodFrom : ℕ → ℕ → List (List ℕ) → List Edge
+stoodFrom n k [] = []
+stoodFrom n k (row ∷ rows) = pick (ltb (getD row 15 0) k && eqb (edgeOf row .from) n) (edgeOf row ∷ stoodFrom n k rows) (stoodFrom n k rows)
 
--- the rows of node n from place p on; from 0 on they are all that stand
-unfoldable pub restFrom : ℕ → ℕ → List Edge → List Edge
-restFrom n p es = rowsOfKind n 0 (drop p es) ++ rowsOfKind n 1 (drop (p - length es) es)
+-- but the first p
+abbrev pub restFrom : ℕ → ℕ → ℕ → List (List ℕ) → List Edge
+restFrom n k p rows = drop p (stoodFrom n k rows)
 
--- the next one of the first k rows
-pub record NextAt (n k : ℕ) (ws : List ℕ) (p i : ℕ) : Type 0 where
-  pub from : p ≤ i
-  pub within : i < 2 * k
-  pub rows : restFrom n p (edgesIn k ws) ≡ edgeOf (rowAt ws (rowOfPlace k i)) ∷ restFrom n (i + 1) (edgesIn k ws)
+-- the next one is row i
+pub record NextAt (c : Counts) (n k p : ℕ) (ws : List ℕ) (i : ℕ) : Type 0 where
+  pub after : p ≤ i
+  pub within : i < c .edges
+  pub rows : restFrom n k p (rowsFrom (c .edges) ws) ≡ edgeOf (rowAt ws i) ∷ restFrom n k (p + 1) (rowsFrom (c .edges) ws)
 
-abbrev pub Nexts : ℕ → ℕ → List ℕ → ℕ → Found → Type 0
-Nexts n k ws p (Row i) = NextAt n k ws p i
-Nexts n k ws p Nothing = restFrom n p (edgesIn k ws) ≡ []
+abbrev pub Nexts : Counts → ℕ → ℕ → ℕ → List ℕ → Found → Type 0
+Nexts c n k p ws (Row i) = NextAt c n k p ws i
+Nexts c n k p ws Nothing = restFrom n k p (rowsFrom (c .edges) ws) ≡ []
+
+-- a step after which no count is lower and the rows that stood are there, among younger ones
+pub record Kept (c : Counts) (es : List ℕ) (d : Counts) (es′ : List ℕ) : Type 0 where
+  pub nodes : c .nodes ≤ d .nodes
+  pub edges : c .edges ≤ d .edges
+  pub stood : older (c .edges) (rowsFrom (d .edges) es′) ≡ rowsFrom (c .edges) es
+
+abbrev pub Keeps : Counts → List ℕ → Grew → List ℕ → Type 0
+Keeps c es (On d) es′ = Kept c es d es′
+Keeps c es (Refused f) es′ = Unit {0}
 
 -- ---- one row of a clone
 
@@ -119,21 +133,21 @@ pub record Takes (z : lent.Room) (x : Res Fault Taken) (u : row.Taken) (ns es : 
 
 -- ---- frames
 
--- a frame as an edge: the rows that stood for its kind, the place of the next one for its symbol
+-- a frame as an edge: how many rows stood for its kind, and how many of the node's are taken up for its symbol
 abbrev pub frameIs : held-frame.Frame → Edge
 frameIs f = record { from = f .clone .from .0; kind = f .stood; sym = f .place; to = f .clone .to .0; reduces = edgeIs (f .clone) .reduces }
 
--- what it says of the edges in these words
-abbrev pub begunOf : List ℕ → Edge → Begun
-begunOf ws f = record { rows = restFrom (f .from) (f .sym) (edgesIn (f .kind) ws); to = f .to; stored = f .reduces }
+-- what it says of these rows
+abbrev pub begunOf : List (List ℕ) → Edge → Begun
+begunOf rows f = record { rows = restFrom (f .from) (f .kind) (f .sym) rows; to = f .to; stored = f .reduces }
 
 -- the first n frames, the last one first
 unfoldable pub framesIn : ℕ → List ℕ → List Edge
 framesIn zero fs = []
 framesIn (suc n) fs = edgeOf (rowAt fs n) ∷ framesIn n fs
 
-abbrev pub begunIn : List ℕ → ℕ → List ℕ → List Begun
-begunIn ws n fs = map (begunOf ws) (framesIn n fs)
+abbrev pub begunIn : List (List ℕ) → ℕ → List ℕ → List Begun
+begunIn rows n fs = map (begunOf rows) (framesIn n fs)
 
 -- it goes to a node that there is, and no more rows stood than there are
 pub record FrameOk (c : Counts) (f : Edge) : Type 0 where
@@ -155,7 +169,7 @@ pub record Staged (z : lent.Room) (t : ℕ) (s : Stage) (ns es fs : List ℕ) : 
 
 -- what comes of them
 abbrev pub stageOf : Bounds → ℕ → Stage → List ℕ → List ℕ → List ℕ → Res Fault Grown
-stageOf b t s ns es fs = clones b t (s .left) (begunIn es (s .depth) fs) (grownOf (s .counts) ns es)
+stageOf b t s ns es fs = clones b t (s .left) (begunIn (rowsFrom (s .counts .edges) es) (s .depth) fs) (grownOf (s .counts) ns es)
 
 abbrev pub turnedOf : Bounds → ℕ → Turned → List ℕ → List ℕ → List ℕ → Res Fault Grown
 turnedOf b t (turned.On s) ns es fs = stageOf b t s ns es fs

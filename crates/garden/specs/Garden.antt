@@ -10,7 +10,7 @@ use Rattle.words.specs.Limits.{mostReduces, mostOffset}
 use Rattle.words.specs.Outcome.{Res, ok, no, bind, when, pick}
 use Rattle.words.specs.Numbers.{Fault, noNode, sixthReduce, farOffset, badCopy, manyRows, noClone}
 use Rattle.rules.specs.Rules.{Rule, symbol}
-use Rattle.rows.specs.Rows.{Reduce, Edge, find}
+use Rattle.rows.specs.Rows.{Reduce, Edge, find, leaving}
 use Rattle.tree.specs.Grow.{Grown, Room, branchAt, addEdge, apart, plant, convertAll, growing}
 
 -- the room of the tables, the frames for clones, and how many rows `clone_branches` may take up in one garden path
@@ -112,13 +112,9 @@ sameReduces (c ∷ cs) (d ∷ ds) = eqb (c .rule) (d .rule) && eqb (c .offset) (
 
 -- ---- the rows of a node that stand when a copy begins
 
-unfoldable pub rowsOfKind : ℕ → ℕ → List Edge → List Edge
-rowsOfKind n k [] = []
-rowsOfKind n k (e ∷ es) = elim (eqb (e .from) n && eqb (e .kind) k) [ true ↦ e ∷ rowsOfKind n k es | false ↦ rowsOfKind n k es ]
-
--- constants, then variables, each in row order
+-- in row order: rows rise, so constants come before variables, each by its symbol
 unfoldable pub standing : ℕ → List Edge → List Edge
-standing n es = rowsOfKind n 0 es ++ rowsOfKind n 1 es
+standing n es = leaving n es
 
 -- ---- clone_with_reduce_vec (17): the rows of a node are copied with a list behind their reduces
 
@@ -325,5 +321,5 @@ unfoldable pub build : Bounds → List Rule → List Command → Res Fault Grown
 build z R cs = bind (plant (z .room) R) λ g. tend z R cs g
 
 unfoldable pub gardening : Unit {0}
-unfolding growing symbol goodPairs pairsOf goodPath commandOf commandSize commandsOf lowOffsets incrementOffsets raisedOn extend diffExtend sameReduces rowsOfKind standing copyWith copyRows cloneWithReduceVec leafReduces takeLeaf addBranch storeOther newBranch oldBranch takeBranch takeBy takeUp begin clones cloneBranches theEdge leadsTo ofKind partAt shadowed moveOn alongPair along graftLeaf graft graftAt handleCommonPrefixes handleCommand handleCommands isConversions asked convertLast tend build
+unfolding growing symbol goodPairs pairsOf goodPath commandOf commandSize commandsOf lowOffsets incrementOffsets raisedOn extend diffExtend sameReduces standing copyWith copyRows cloneWithReduceVec leafReduces takeLeaf addBranch storeOther newBranch oldBranch takeBranch takeBy takeUp begin clones cloneBranches theEdge leadsTo ofKind partAt shadowed moveOn alongPair along graftLeaf graft graftAt handleCommonPrefixes handleCommand handleCommands isConversions asked convertLast tend build
 gardening = tt

@@ -4,5 +4,4 @@ pub mod Frames
 pub mod Faults
 pub mod Built
 pub mod Standing
-pub mod Adds
 pub mod Pairs

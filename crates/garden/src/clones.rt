@@ -2,7 +2,7 @@
 use crate::copy;
 use crate::row;
 ghost use mathlib.Core.Path.{_≡_};
-ghost use Prim.Native.Nat.{_*_, _-_, _/_, _≤_, _<_};
+ghost use Prim.Native.Nat.{_-_, _/_, _≤_, _<_};
 ghost use lib.ListN.{length};
 ghost use Rattle.words.specs.Limits.{mostEdges, rowWidth, mostReduces};
 ghost use Rattle.rows.specs.Rows.{edgeOf};
@@ -11,7 +11,7 @@ ghost use Rattle.tree.specs.Code.{grownOf, Stands, Meets};
 ghost use Rattle.garden.specs.Garden.{cloneBranches};
 ghost use Rattle.garden.specs.Code.{NextAt, cloningOf, frameIs, boundsOf, Staged, stageOf, Turns, turnsLeft, CanBegin, Begins, AfterRow};
 
-// A clone that has begun: how many rows stood then, and the place of the next one.
+// A clone that has begun: how many rows stood then, and how many of the node's own are taken up.
 pub struct Frame {
     pub clone: rows::Edge,
     pub stood: usize,
@@ -30,9 +30,9 @@ pub enum Turned {
     Refused(tree::Fault),
 }
 
-// A frame has the words of an edge row: the rows that stood where the kind is, the place where the symbol is.
+// A frame has the words of an edge row: how many rows stood where the kind is, how many are taken up where the symbol is.
 fn write_frame(frames: &mut [u32], at: usize, f: Frame)
-    requires { ⌜ (at < length (now frames) / rowWidth) × (f .clone .count ≤ mostReduces) × (f .stood ≤ mostEdges) × (f .place ≤ 2 * mostEdges) ⌝ }
+    requires { ⌜ (at < length (now frames) / rowWidth) × (f .clone .count ≤ mostReduces) × (f .stood ≤ mostEdges) × (f .place ≤ mostEdges) ⌝ }
     ensures { λ _. ⌜ now (frames .exit) ≡ written (now (frames .entry)) at (frameIs f) ⌝ }
 {
     let mut e = f.clone;
@@ -103,7 +103,7 @@ fn after_row(s: Stage, taken: row::Taken, frames: &mut [u32]) -> Turned
     }
 }
 
-// The clone in the top frame takes up its row at this place: 17 where no more may be taken up.
+// The clone in the top frame takes up its next row, which stands here: 17 where no more may be taken up.
 fn take_row(
     room: tree::Room,
     t: words::NodeNo,
@@ -115,7 +115,7 @@ fn take_row(
     frames: &mut [u32],
 ) -> Turned
     requires { ⌜ Staged room (t .0) s (now nodes) (now edges) (now frames) × (0 < s .depth) × (frameIs f ≡ edgeOf (rowAt (now frames) (s .depth - 1))) × (f .clone .count ≤ mostReduces)
-        × NextAt (f .clone .from .0) (f .stood) (now edges) (f .place) at ⌝ }
+        × NextAt (s .counts) (f .clone .from .0) (f .stood) (f .place) (now edges) at ⌝ }
     ensures { λ r. ⌜ Turns room (boundsOf room (length (now (frames .entry)))) (t .0) (turnsLeft s) (stageOf (boundsOf room (length (now (frames .entry)))) (t .0) s (now (nodes .entry)) (now (edges .entry)) (now (frames .entry))) r (now (nodes .exit)) (now (edges .exit)) (now (frames .exit)) ⌝ }
 {
     if s.left == 0 {
@@ -129,10 +129,10 @@ fn take_row(
         Frame {
             clone,
             stood,
-            place: at + 1,
+            place: f.place + 1,
         },
     );
-    let e = rows::read_row(edges, copy::row_of(stood, at));
+    let e = rows::read_row(edges, at);
     let c = s.counts;
     let taken = row::take_up(room, c, t, clone, e, nodes, edges);
     after_row(s, taken, frames)
@@ -155,7 +155,7 @@ fn turn(
     let clone = f.clone;
     let from = clone.from;
     let counts = s.counts;
-    let rows::Found::Row(at) = copy::next_row(edges, from, f.stood, f.place) else {
+    let rows::Found::Row(at) = copy::next_row(counts, from, f.stood, f.place, edges) else {
         return Turned::On(Stage {
             counts,
             depth: top,

@@ -1,67 +1,79 @@
-// The rows of a node that stood when a copy began, and `clone_with_reduce_vec`. Those rows are gone through twice, for constants and then
-// for variables: a place below their number is a constant's row, a place past it a variable's.
+// The rows of a node that stood when a copy began, and `clone_with_reduce_vec`. A row's last word is its age while the tree grows: how many
+// rows there were when it was put in.
 use crate::lists;
 ghost use mathlib.Core.Path.{_≡_};
-ghost use mathlib.Core.Bool.{_&&_};
 ghost use mathlib.Core.List.{List};
-ghost use Prim.Native.Nat.{ℕ, _*_, _/_, _≤_, _<_};
-ghost use lib.Dec.{eqb};
-ghost use lib.ListN.{length};
+ghost use mathlib.Core.Option.{none};
+ghost use Prim.Native.Nat.{ℕ, _/_, _≤_, _<_};
+ghost use lib.Dec.{ltb};
+ghost use lib.ListN.{length, getD};
 ghost use Rattle.words.specs.Limits.{mostEdges, rowWidth, mostReduces};
-ghost use Rattle.rows.specs.Rows.{edgeOf, find};
+ghost use Rattle.words.specs.Outcome.{pick};
+ghost use Rattle.rows.specs.Rows.{find};
 ghost use Rattle.rows.specs.Code.{edgeIs, rowAt};
-ghost use Rattle.tree.specs.Code.{roomOf, grownOf, edgesIn, Rowed, Rows};
+ghost use Rattle.tree.specs.Grow.{addEdge};
+ghost use Rattle.tree.specs.Code.{roomOf, grownOf, edgesIn, Rising, Rowed, Rows};
 ghost use Rattle.garden.specs.Garden.{copyWith, cloneWithReduceVec};
-ghost use Rattle.garden.specs.Code.{rowOfPlace, kindOfPlace, Nexts};
+ghost use Rattle.garden.specs.Code.{Nexts, Keeps};
 
-// Whether a row leaves this node with an edge of this kind.
-fn row_leaves(edges: &[u32], row: usize, from: words::NodeNo, kind: u32) -> bool
+// 1 if a row was put in when there were fewer than `stood`.
+fn stood_at(edges: &[u32], row: usize, stood: usize) -> usize
     requires { ⌜ row < length (now edges) / rowWidth ⌝ }
-    ensures { λ r. ⌜ r ≡ eqb (edgeOf (rowAt (now (edges .entry)) row) .from) (from .0) && eqb (edgeOf (rowAt (now (edges .entry)) row) .kind) kind ⌝ }
+    ensures { λ r. ⌜ r ≡ pick (ltb (getD (rowAt (now (edges .entry)) row) 15 0) stood) 1 0 ⌝ }
 {
-    let at = words::ROW_WIDTH * row;
-    if edges[at] != from.0 {
-        return false;
+    if (edges[words::ROW_WIDTH * row + 15] as usize) < stood {
+        return 1;
     }
-    edges[at + 1] == kind
+    0
 }
 
-// The row of a place.
-pub fn row_of(stood: usize, place: usize) -> usize
-    ensures { λ r. ⌜ r ≡ rowOfPlace stood place ⌝ }
+// The node's next row among those that stood, after `place` of them. Its rows stand together.
+pub fn next_row(
+    c: tree::Counts,
+    from: words::NodeNo,
+    stood: usize,
+    place: usize,
+    edges: &[u32],
+) -> rows::Found
+    requires { ⌜ Rising c (now edges) ⌝ }
+    ensures { λ r. ⌜ Nexts c (from .0) stood place (now (edges .entry)) r ⌝ }
 {
-    if place < stood {
-        return place;
-    }
-    place - stood
-}
-
-// Whether the node has a row at this place.
-fn at_place(edges: &[u32], from: words::NodeNo, stood: usize, place: usize) -> bool
-    requires { ⌜ (rowWidth * stood ≤ length (now edges)) × (place < 2 * stood) ⌝ }
-    ensures { λ r. ⌜ r ≡ eqb (edgeOf (rowAt (now (edges .entry)) (rowOfPlace stood place)) .from) (from .0)
-        && eqb (edgeOf (rowAt (now (edges .entry)) (rowOfPlace stood place)) .kind) (kindOfPlace stood place) ⌝ }
-{
-    let row = row_of(stood, place);
-    if place < stood {
-        return row_leaves(edges, row, from, 0);
-    }
-    row_leaves(edges, row, from, 1)
-}
-
-// The place of the node's next row, from this place on, among the rows that stood.
-pub fn next_row(edges: &[u32], from: words::NodeNo, stood: usize, place: usize) -> rows::Found
-    requires { ⌜ (rowWidth * stood ≤ length (now edges)) × (stood ≤ mostEdges) ⌝ }
-    ensures { λ r. ⌜ Nexts (from .0) stood (now (edges .entry)) place r ⌝ }
-{
-    let mut at = place;
-    while at < 2 * stood {
-        if at_place(edges, from, stood, at) {
+    let count = c.edges;
+    let mut at = tree::table::first_row(c, from, edges);
+    let mut left = place;
+    while at < count {
+        if edges[words::ROW_WIDTH * at] != from.0 {
+            return rows::Found::Nothing;
+        }
+        let one = stood_at(edges, at, stood);
+        if left < one {
             return rows::Found::Row(at);
         }
+        left -= one;
         at += 1;
     }
     rows::Found::Nothing
+}
+
+// A row with a new key, and its age: 13 where there is no room for it.
+pub fn put_row(room: tree::Room, c: tree::Counts, e: rows::Edge, edges: &mut [u32]) -> tree::Grew
+    requires { ⌜ Rowed room c (now edges) × (room .edges ≤ mostEdges) × (e .to .0 < c .nodes) × (e .count ≤ mostReduces)
+        × (find (edgesIn (c .edges) (now edges)) (e .from .0) (e .kind) (e .symbol .0) ≡ none) ⌝ }
+    ensures { λ r. ⌜ ((ns : List ℕ) → Rows room c (addEdge (roomOf room) (grownOf c ns (now (edges .entry))) (edgeIs e)) r ns (now (edges .exit)))
+        × Keeps c (now (edges .entry)) r (now (edges .exit)) ⌝ }
+{
+    let from = e.from;
+    let symbol = e.symbol;
+    let row = tree::table::place_of(c, from, e.kind, symbol, edges);
+    let age = c.edges as u32;
+    let grew = tree::table::add_edge(room, c, e, edges);
+    match grew {
+        tree::Grew::On(d) => {
+            edges[words::ROW_WIDTH * row + 15] = age;
+            tree::Grew::On(d)
+        }
+        tree::Grew::Refused(f) => tree::Grew::Refused(f),
+    }
 }
 
 // A row is copied to node `m` with a list behind its reduces, unless that has the key: 15, 14, 13.
@@ -73,11 +85,12 @@ fn copy_with(
     e: rows::Edge,
     edges: &mut [u32],
 ) -> tree::Grew
-    requires { ⌜ Rowed room c (now edges) × (e .to .0 < c .nodes) × (e .count ≤ mostReduces) × (list .count ≤ mostReduces) ⌝ }
+    requires { ⌜ Rowed room c (now edges) × (room .edges ≤ mostEdges) × (e .to .0 < c .nodes) × (e .count ≤ mostReduces) × (list .count ≤ mostReduces) ⌝ }
     ensures { λ r. ⌜ ((ns : List ℕ) → Rows room c
         (copyWith (roomOf room) (m .0) (edgeIs list .reduces) (grownOf c ns (now (edges .entry))) (edgeIs e)
         (find (edgesIn (c .edges) (now (edges .entry))) (m .0) (e .kind) (e .symbol .0)))
-        r ns (now (edges .exit))) ⌝ }
+        r ns (now (edges .exit)))
+        × Keeps c (now (edges .entry)) r (now (edges .exit)) ⌝ }
 {
     let symbol = e.symbol;
     let rows::Found::Nothing = tree::table::look(c, m, e.kind, symbol, edges) else {
@@ -94,7 +107,7 @@ fn copy_with(
     }
     let mut row = added.edge;
     row.from = m;
-    tree::table::add_edge(room, c, row, edges)
+    put_row(room, c, row, edges)
 }
 
 // The rows of node `n` are copied to node `m` with a list behind their reduces.
@@ -109,16 +122,17 @@ pub fn clone_with_reduce_vec(
     requires { ⌜ Rowed room start (now edges) × (room .edges ≤ mostEdges) × (list .count ≤ mostReduces) ⌝ }
     ensures { λ r. ⌜ ((ns : List ℕ) → Rows room start
         (cloneWithReduceVec (roomOf room) (n .0) (m .0) (edgeIs list .reduces) (grownOf start ns (now (edges .entry))))
-        r ns (now (edges .exit))) ⌝ }
+        r ns (now (edges .exit)))
+        × Keeps start (now (edges .entry)) r (now (edges .exit)) ⌝ }
 {
     let stood = start.edges;
     let mut c = start;
     let mut place = 0;
-    while place < 2 * stood {
-        let rows::Found::Row(at) = next_row(edges, n, stood, place) else {
+    while place < stood {
+        let rows::Found::Row(at) = next_row(c, n, stood, place, edges) else {
             return tree::Grew::On(c);
         };
-        let e = rows::read_row(edges, row_of(stood, at));
+        let e = rows::read_row(edges, at);
         let grew = copy_with(room, c, m, list, e, edges);
         match grew {
             tree::Grew::On(next) => {
@@ -128,7 +142,7 @@ pub fn clone_with_reduce_vec(
                 return tree::Grew::Refused(f);
             }
         }
-        place = at + 1;
+        place += 1;
     }
     tree::Grew::On(c)
 }

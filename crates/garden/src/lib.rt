@@ -190,6 +190,26 @@ fn tend(
     }
 }
 
+// The rules, and then the commands.
+fn grow(
+    rules: &[u32],
+    commands: &[u32],
+    room: tree::Room,
+    nodes: &mut [u32],
+    edges: &mut [u32],
+    frames: &mut [u32],
+) -> tree::Grew
+    requires { ⌜ (someRules (now rules) ≡ true) × Within room (now nodes) (now edges) × (room .edges ≤ mostEdges) ⌝ }
+    ensures { λ r. ⌜ Meets room (build (boundsOf room (length (now (frames .entry)))) (theRules (now (rules .entry))) (theCommands (now (commands .entry))))
+        r (now (nodes .exit)) (now (edges .exit)) ⌝ }
+{
+    let planted = tree::plant(rules, room, nodes, edges);
+    match planted {
+        tree::Grew::On(c) => tend(room, c, rules, commands, nodes, edges, frames),
+        tree::Grew::Refused(f) => tree::Grew::Refused(f),
+    }
+}
+
 // The tree of the rules and commands, in two slices with so much room, with a slice of frames for clones.
 pub fn build(
     rules: &[u32],
@@ -203,9 +223,6 @@ pub fn build(
     ensures { λ r. ⌜ Grows room (build (boundsOf room (length (now (frames .entry)))) (theRules (now (rules .entry))) (theCommands (now (commands .entry))))
         r (now (nodes .exit)) (now (edges .exit)) ⌝ }
 {
-    let planted = tree::plant(rules, room, nodes, edges);
-    match planted {
-        tree::Grew::On(c) => tend(room, c, rules, commands, nodes, edges, frames),
-        tree::Grew::Refused(f) => tree::Grew::Refused(f),
-    }
+    let grew = grow(rules, commands, room, nodes, edges, frames);
+    tree::finish(grew, edges)
 }

@@ -5,6 +5,7 @@ use crate::lists;
 ghost use mathlib.Core.Path.{_≡_};
 ghost use mathlib.Core.Bool.{false};
 ghost use mathlib.Core.List.{List};
+ghost use mathlib.Core.Option.{none};
 ghost use Prim.Native.Nat.{ℕ, _≤_, _<_};
 ghost use lib.ListN.{length};
 ghost use Rattle.words.specs.Limits.{mostEdges, mostReduces};
@@ -14,7 +15,7 @@ ghost use Rattle.tree.specs.Code.{roomOf, grownOf, edgesIn, Rowed, Stands, Rows
 ghost use Rattle.tree.specs.declared.Room as lent;
 ghost use Rattle.tree.specs.declared.Grew.the-variants.{Refused};
 ghost use Rattle.garden.specs.Garden.{takeLeaf, addBranch, newBranch, oldBranch, takeBranch, takeUp};
-ghost use Rattle.garden.specs.Code.{listedOf, leafRow, leafRows, Takes};
+ghost use Rattle.garden.specs.Code.{listedOf, leafRow, leafRows, Keeps, Takes};
 
 // What comes of a row: the counts, or the refusal; and the clone that has to begin, if any.
 pub struct Taken {
@@ -25,7 +26,7 @@ pub struct Taken {
 
 // ---- a row that leads to a leaf
 
-// Node `m` gets a row to node `t`.
+// Node `m` gets a row to node `t`, with a new key.
 fn leaf_row(
     room: tree::Room,
     c: tree::Counts,
@@ -34,9 +35,11 @@ fn leaf_row(
     listed: lists::Listed,
     edges: &mut [u32],
 ) -> tree::Grew
-    requires { ⌜ Rowed room c (now edges) × (t .0 < c .nodes) × (listed .edge .count ≤ mostReduces) ⌝ }
+    requires { ⌜ Rowed room c (now edges) × (room .edges ≤ mostEdges) × (t .0 < c .nodes) × (listed .edge .count ≤ mostReduces)
+        × (find (edgesIn (c .edges) (now edges)) (m .0) (listed .edge .kind) (listed .edge .symbol .0) ≡ none) ⌝ }
     ensures { λ r. ⌜ ((ns : List ℕ) → Rows room c (leafRow (roomOf room) (t .0) (m .0) (listed .edge) (listedOf listed) (grownOf c ns (now (edges .entry))))
-        r ns (now (edges .exit))) ⌝ }
+        r ns (now (edges .exit)))
+        × Keeps c (now (edges .entry)) r (now (edges .exit)) ⌝ }
 {
     if !listed.ok {
         let why = listed.why;
@@ -45,7 +48,7 @@ fn leaf_row(
     let mut row = listed.edge;
     row.from = m;
     row.to = t;
-    tree::table::add_edge(room, c, row, edges)
+    copy::put_row(room, c, row, edges)
 }
 
 // Node `z` gets the rows of node `t`.
@@ -61,7 +64,8 @@ fn leaf_rows(
     requires { ⌜ Rowed room c (now edges) × (room .edges ≤ mostEdges) × (c .nodes ≤ length (now nodes)) × (t .0 < c .nodes) × (z .0 < c .nodes)
         × (listed .edge .count ≤ mostReduces) ⌝ }
     ensures { λ r. ⌜ Rows room c (leafRows (roomOf room) (t .0) (z .0) (listedOf listed) (grownOf c (now (nodes .entry)) (now (edges .entry))))
-        r (now (nodes .entry)) (now (edges .exit)) ⌝ }
+        r (now (nodes .entry)) (now (edges .exit))
+        × Keeps c (now (edges .entry)) r (now (edges .exit)) ⌝ }
 {
     if !tree::convert::apart(nodes, t, z) {
         return tree::Grew::Refused(tree::Fault::BadCopy);
@@ -88,7 +92,8 @@ fn take_leaf(
     ensures { λ r. ⌜ Rows room c
         (takeLeaf (roomOf room) (t .0) (clone .to .0) (edgeIs clone .reduces) (grownOf c (now (nodes .entry)) (now (edges .entry))) (edgeIs e)
         (find (edgesIn (c .edges) (now (edges .entry))) (clone .to .0) (e .kind) (e .symbol .0)))
-        r (now (nodes .entry)) (now (edges .exit)) ⌝ }
+        r (now (nodes .entry)) (now (edges .exit))
+        × Keeps c (now (edges .entry)) r (now (edges .exit)) ⌝ }
 {
     let m = clone.to;
     let symbol = e.symbol;
@@ -114,7 +119,7 @@ fn refused(f: tree::Fault, e: rows::Edge) -> Taken
     }
 }
 
-// A branch more, and the row's edge to it from node `m`: 12, then 13.
+// A branch more, and the row's edge to it from node `m`, with a new key: 12, then 13.
 fn add_branch(
     room: tree::Room,
     c: tree::Counts,
@@ -123,9 +128,11 @@ fn add_branch(
     nodes: &mut [u32],
     edges: &mut [u32],
 ) -> tree::Grew
-    requires { ⌜ Stands room c (now nodes) (now edges) × (e .count ≤ mostReduces) ⌝ }
+    requires { ⌜ Stands room c (now nodes) (now edges) × (room .edges ≤ mostEdges) × (e .count ≤ mostReduces)
+        × (find (edgesIn (c .edges) (now edges)) (m .0) (e .kind) (e .symbol .0) ≡ none) ⌝ }
     ensures { λ r. ⌜ Meets room (addBranch (roomOf room) (grownOf c (now (nodes .entry)) (now (edges .entry))) (m .0) (edgeIs e))
-        r (now (nodes .exit)) (now (edges .exit)) ⌝ }
+        r (now (nodes .exit)) (now (edges .exit))
+        × Keeps c (now (edges .entry)) r (now (edges .exit)) ⌝ }
 {
     let n = c.nodes;
     if room.nodes <= n {
@@ -136,7 +143,7 @@ fn add_branch(
     let mut row = e;
     row.from = m;
     row.to = to;
-    tree::table::add_edge(
+    copy::put_row(
         room,
         tree::Counts {
             nodes: n + 1,
@@ -156,10 +163,12 @@ fn new_branch(
     nodes: &mut [u32],
     edges: &mut [u32],
 ) -> Taken
-    requires { ⌜ Stands room c (now nodes) (now edges) × (e .count ≤ mostReduces) × (raised .count ≤ mostReduces) ⌝ }
+    requires { ⌜ Stands room c (now nodes) (now edges) × (room .edges ≤ mostEdges) × (e .count ≤ mostReduces) × (raised .count ≤ mostReduces)
+        × (find (edgesIn (c .edges) (now edges)) (raised .to .0) (e .kind) (e .symbol .0) ≡ none) ⌝ }
     ensures { λ r. ⌜ Takes room
         (newBranch (roomOf room) (raised .to .0) (edgeIs raised .reduces) (grownOf c (now (nodes .entry)) (now (edges .entry))) (edgeIs e))
-        r (now (nodes .exit)) (now (edges .exit)) ⌝ }
+        r (now (nodes .exit)) (now (edges .exit))
+        × Keeps c (now (edges .entry)) (r .grew) (now (edges .exit)) ⌝ }
 {
     let m = raised.to;
     let grew = add_branch(room, c, m, e, nodes, edges);
@@ -179,7 +188,7 @@ fn new_branch(
 fn old_branch(c: tree::Counts, e: rows::Edge, raised: rows::Edge, d: rows::Edge) -> Taken
     requires { ⌜ (d .to .0 < c .nodes) × (e .count ≤ mostReduces) × (raised .count ≤ mostReduces) × (d .count ≤ mostReduces) ⌝ }
     ensures { λ r. ⌜ ((z : lent.Room) (ns es : List ℕ) → Stands z c ns es
-        → Takes z (oldBranch (edgeIs raised .reduces) (grownOf c ns es) (edgeIs e) (edgeIs d)) r ns es) ⌝ }
+        → Takes z (oldBranch (edgeIs raised .reduces) (grownOf c ns es) (edgeIs e) (edgeIs d)) r ns es × Keeps c es (r .grew) es) ⌝ }
 {
     let added = lists::store_other(raised, e, d);
     if !added.ok {
@@ -205,11 +214,12 @@ fn take_branch(
     nodes: &mut [u32],
     edges: &mut [u32],
 ) -> Taken
-    requires { ⌜ Stands room c (now nodes) (now edges) × (e .count ≤ mostReduces) × (clone .count ≤ mostReduces) ⌝ }
+    requires { ⌜ Stands room c (now nodes) (now edges) × (room .edges ≤ mostEdges) × (e .count ≤ mostReduces) × (clone .count ≤ mostReduces) ⌝ }
     ensures { λ r. ⌜ Takes room
         (takeBranch (roomOf room) (clone .to .0) (edgeIs clone .reduces) (grownOf c (now (nodes .entry)) (now (edges .entry))) (edgeIs e)
         (find (edgesIn (c .edges) (now (edges .entry))) (clone .to .0) (e .kind) (e .symbol .0)))
-        r (now (nodes .exit)) (now (edges .exit)) ⌝ }
+        r (now (nodes .exit)) (now (edges .exit))
+        × Keeps c (now (edges .entry)) (r .grew) (now (edges .exit)) ⌝ }
 {
     let m = clone.to;
     let symbol = e.symbol;
@@ -241,7 +251,8 @@ pub fn take_up(
         × (clone .count ≤ mostReduces) × (e .to .0 < c .nodes) × (e .count ≤ mostReduces) ⌝ }
     ensures { λ r. ⌜ Takes room
         (takeUp (roomOf room) (t .0) (clone .to .0) (edgeIs clone .reduces) (grownOf c (now (nodes .entry)) (now (edges .entry))) (edgeIs e))
-        r (now (nodes .exit)) (now (edges .exit)) ⌝ }
+        r (now (nodes .exit)) (now (edges .exit))
+        × Keeps c (now (edges .entry)) (r .grew) (now (edges .exit)) ⌝ }
 {
     let x = clone.to;
     let y = e.to;

@@ -1,6 +1,6 @@
 -- Laws that the proofs of this crate's functions share.
 use mathlib.Core.Path.{_≡_, refl, sym, ap, _∙_}
-use mathlib.Core.Bool.{Bool, true, false, false≢true, _&&_}
+use mathlib.Core.Bool.{Bool, true, false, false≢true, not, _&&_}
 use mathlib.Core.List.{List, [], _∷_, _++_, map, append-nil, append-assoc}
 use mathlib.Core.Option.{none, some}
 use Prim.Native.Nat.{ℕ, zero, suc, _+_, _*_, _-_, _/_, _%_, _≤_, _<_}
@@ -9,20 +9,21 @@ use native.Mathlib.Numerals.{add-one}
 use native.Mathlib.Omega.{arith}
 use lib.Dec.{leb, eqb}
 use lib.ListN.{length, take, drop, getD, set, drop-of-length-le, List·getD-append, length-map, length-take, List·getD-map, List·getD-eq-default, length-set}
-use lib.Seq.{drop-cons, drop-drop, take-all, take-suc, getD-drop, getD-take, set-at, length-take-le, take-take, take-suc-set, sets, sets-eq}
+use lib.Seq.{drop-cons, drop-drop, take-all, take-suc, getD-drop, getD-take, set-at, length-take-le, take-take, take-append-le, drop-at, take-suc-set, sets, sets-eq}
 use borrow.Author.Tests.{lt-ltb, le-ltb}
 use borrow.Rule.Slice.PartMut.{putMid}
 use Rattle.words.specs.Limits.{mostEdges}
-use Rattle.words.specs.Outcome.{pick}
+use Rattle.words.specs.Lent.{movedUp}
 use Rattle.words.specs.laws.Tests.{tests}
-use Rattle.rows.specs.Rows.{Reduce, Edge, withReduce, reducesOf, edgeOf, edgesFrom, rowsOf, reduceWords, rowWords, keyed, bare, goodNodes, goodPair, goodPairs, goodEnds, goodRows, edgesGood}
-use Rattle.rows.specs.Code.{reduceIs, edgeIs, Holds, Adds, rowAt, numbered}
+use Rattle.rows.specs.Rows.{Reduce, Edge, withReduce, reducesOf, edgeOf, edgesFrom, edgesOf, rowsOf, reduceWords, rowWords, below, precedes, rising, keyed, bare, goodNodes, goodPair, goodPairs, goodEnds, goodRows, edgesGood}
+use Rattle.rows.specs.Code.{reduceIs, edgeIs, Holds, Adds, rowAt, written, putIn, placeOf, looksUp}
 use Rattle.rows.specs.declared.Reduce as coded
 use Rattle.rows.specs.declared.Edge as held
 use Rattle.rows.specs.declared.Found.the-variants.{Row, Nothing}
 use Rattle.rows.specs.laws.Words.{row-length, last-word}
 use Rattle.rows.specs.laws.Fair.{reduces-length}
-use Rattle.rows.specs.laws.Lookup.{rowsLeft, rows-step, rows-end}
+use Rattle.rows.specs.laws.Lookup.{rowsLeft, rows-step, rows-end, edges-count, edges-left, edges-step, edge-at}
+use Rattle.rows.specs.laws.Order.{place-within, place-before, place-after, place-row, place-none, place-bare, not-bare}
 
 -- ---- rows, from row r on
 
@@ -34,31 +35,73 @@ row-part ws a = let e : a + 16 - a ≡ 16 = omega arith in rw e
 pub word-at : (ws : List ℕ) (a j : ℕ) → j < 16 → getD (take 16 (drop a ws)) j 0 ≡ getD ws (a + j) 0
 word-at ws a j h = getD-take 16 (drop a ws) j 0 h ∙ getD-drop a ws j 0
 
--- ---- the look-up, from row r on
+-- ---- halving
 
-pub look-step : (f k s : ℕ) (ws : List ℕ) (n r : ℕ) → r < n
-    → numbered f k s r (edgesFrom (rowsLeft ws n r)) ≡ pick (keyed f k s (edgeOf (rowAt ws r))) (Row r) (numbered f k s (r + 1) (edgesFrom (rowsLeft ws n (r + 1))))
-unfolding numbered edgesFrom
-look-step f k s ws n r h = rw (rows-step ws n r h)
+module _ (n k s : ℕ) (ws : List ℕ) where
+  abbrev place : ℕ
+  place = placeOf n k s (edgesOf ws)
 
-pub look-end : (f k s : ℕ) (ws : List ℕ) (n r : ℕ) → n ≤ r → numbered f k s r (edgesFrom (rowsLeft ws n r)) ≡ Nothing
-unfolding numbered edgesFrom
-look-end f k s ws n r h = rw (rows-end ws n r h)
+  pub place-in : place ≤ length ws / 16
+  place-in = omega (arith, place-within n k s (edgesOf ws), edges-count ws)
 
--- ---- rows that leave a node, from row r on
+  module _ (i : ℕ) (h : i < length ws / 16) where
+    -- the rows up to a lower one stand before the key
+    pub half-lower : rising (edgesOf ws) ≡ true → below n k s (edgeOf (rowAt ws i)) ≡ true → i < place
+    half-lower r b = place-after n k s (edgesOf ws) i (edgeOf []) r (omega (arith, edges-count ws)) (rw (edge-at ws i (edgeOf []) h) b)
 
-pub bare-step : (f : ℕ) (ws : List ℕ) (n r : ℕ) → r < n
-    → bare (edgesFrom (rowsLeft ws n r)) f ≡ elim (eqb (getD ws (16 * r) 0) f) [ true ↦ false | false ↦ bare (edgesFrom (rowsLeft ws n (r + 1))) f ]
-unfolding bare edgesFrom edgeOf
-bare-step f ws n r h =
-    let z : 16 * r + 0 ≡ 16 * r = omega arith in
-    rw (rows-step ws n r h, word-at ws (16 * r) 0 (omega arith), z)
+    -- and those from another on do not
+    pub half-higher : below n k s (edgeOf (rowAt ws i)) ≡ false → place ≤ i
+    half-higher b = place-before n k s (edgesOf ws) i (edgeOf []) (omega (arith, edges-count ws)) (rw (edge-at ws i (edgeOf []) h) b)
 
-pub bare-end : (f : ℕ) (ws : List ℕ) (n r : ℕ) → n ≤ r → bare (edgesFrom (rowsLeft ws n r)) f ≡ true
-unfolding bare edgesFrom
-bare-end f ws n r h = rw (rows-end ws n r h)
+-- ---- the look-up: p is the key's place
+
+module _ (n k s : ℕ) (ws : List ℕ) (p : ℕ) (e : p ≡ placeOf n k s (edgesOf ws)) where
+  module _ (h : p < length ws / 16) where
+    pub look-row : keyed n k s (edgeOf (rowAt ws p)) ≡ true → looksUp ws n k s ≡ Row p
+    look-row q =
+        let z : 0 + p ≡ p = omega arith in
+        rw (← e, z) at (place-row n k s (edgesOf ws) 0 (edgeOf []) (rw (← e) (omega (arith, edges-count ws))) (rw (← e, edge-at ws p (edgeOf []) h) q))
+
+    pub look-other : rising (edgesOf ws) ≡ true → keyed n k s (edgeOf (rowAt ws p)) ≡ false → looksUp ws n k s ≡ Nothing
+    look-other r q = place-none n k s (edgesOf ws) 0 (edgeOf []) r λ l. rw (← e, edge-at ws p (edgeOf []) h) q
+
+  pub look-past : rising (edgesOf ws) ≡ true → length ws / 16 ≤ p → looksUp ws n k s ≡ Nothing
+  look-past r h = place-none n k s (edgesOf ws) 0 (edgeOf []) r λ l. absurd (omega (arith, edges-count ws))
+
+-- ---- whether rows leave a node: p is where its first would stand
+
+module _ (n : ℕ) (ws : List ℕ) (p : ℕ) (e : p ≡ placeOf n 0 0 (edgesOf ws)) (r : rising (edgesOf ws) ≡ true) where
+  pub bare-past : length ws / 16 ≤ p → bare (edgesOf ws) n ≡ true
+  bare-past h = place-bare n (edgesOf ws) (edgeOf []) r λ l. absurd (omega (arith, edges-count ws))
+
+  pub bare-by : p < length ws / 16 → eqb (getD ws (16 * p) 0) n ≡ not (bare (edgesOf ws) n)
+  unfolding edgeOf
+  bare-by h = by (eqb (getD ws (16 * p) 0) n) refl
+    where
+      read : getD (edgesOf ws) p (edgeOf []) .from ≡ getD ws (16 * p) 0
+      read =
+          let z : 16 * p + 0 ≡ 16 * p = omega arith in
+          ap (λ (e : Edge). e .from) (edge-at ws p (edgeOf []) h) ∙ rw z at (word-at ws (16 * p) 0 (omega arith))
+
+      by : (b : Bool) → eqb (getD ws (16 * p) 0) n ≡ b → eqb (getD ws (16 * p) 0) n ≡ not (bare (edgesOf ws) n)
+      by true q = rw (q, not-bare n (edgesOf ws) p (edgeOf []) (omega (arith, edges-count ws)) (rw read q))
+      by false q = rw (q, place-bare n (edgesOf ws) (edgeOf []) r (λ l. rw (← e, read) q))
 
 -- ---- the table check
+
+-- a row, and the next one as the code reads its key
+module _ (ws : List ℕ) (r : ℕ) where
+  pub last-row : length ws / 16 ≤ r + 1 → (d : Edge) → precedes d (drop (r + 1) (edgesOf ws)) ≡ true
+  unfolding precedes
+  last-row h d = rw (drop-of-length-le (edgesOf ws) {i = r + 1} (omega (arith, edges-count ws)))
+
+  pub next-row : r + 1 < length ws / 16 → (d : Edge)
+      → precedes d (drop (r + 1) (edgesOf ws)) ≡ below (getD ws (16 * r + 16) 0) (getD ws (16 * r + 16 + 1) 0) (getD ws (16 * r + 16 + 2) 0) d
+  unfolding precedes edgeOf
+  next-row h d =
+      let at : 16 * (r + 1) ≡ 16 * r + 16 = omega arith in
+      let z : 16 * r + 16 + 0 ≡ 16 * r + 16 = omega arith in
+      rw (edges-step ws (r + 1) h, at, word-at ws (16 * r + 16) 0 (omega arith), word-at ws (16 * r + 16) 1 (omega arith), word-at ws (16 * r + 16) 2 (omega arith), z)
 
 pub nodes-step : (rules : ℕ) (ns : List ℕ) (i : ℕ) → i < length ns → goodNodes rules (drop i ns) ≡ leb (getD ns i 0) rules && goodNodes rules (drop (i + 1) ns)
 unfolding goodNodes
@@ -68,18 +111,45 @@ pub nodes-end : (rules : ℕ) (ns : List ℕ) (i : ℕ) → length ns ≤ i → 
 unfolding goodNodes
 nodes-end rules ns i h = rw (drop-of-length-le ns h)
 
-pub table-step : (ns ws : List ℕ) (rules : ℕ) → length ws % 16 ≡ 0 → length ws / 16 ≤ mostEdges → edgesGood rules ns ws ≡ goodRows rules ns (rowsOf ws)
+pub table-step : (ns ws : List ℕ) (rules : ℕ) → length ws % 16 ≡ 0 → length ws / 16 ≤ mostEdges → edgesGood rules ns ws ≡ goodRows rules ns (rowsOf ws) && rising (edgesOf ws)
 unfolding edgesGood
 table-step ns ws rules e h = search tests
 
-pub check-step : (ns ws : List ℕ) (rules n r : ℕ) → r < n
-    → goodRows rules ns (rowsLeft ws n r) ≡ goodEnds ns (rowAt ws r) && goodPairs rules (rowAt ws r) 5 0 && goodRows rules ns (rowsLeft ws n (r + 1))
-unfolding goodRows
-check-step ns ws rules n r h = rw (rows-step ws n r h)
+-- what is still to be checked at row r of n
+abbrev pub ahead : List ℕ → List ℕ → ℕ → ℕ → ℕ → Bool
+ahead ns ws rules n r = goodRows rules ns (rowsLeft ws n r) && rising (edgesFrom (rowsLeft ws n r))
 
-pub check-end : (ns ws : List ℕ) (rules n r : ℕ) → n ≤ r → goodRows rules ns (rowsLeft ws n r) ≡ true
-unfolding goodRows
+and-false : (a : Bool) → a && false ≡ false
+and-false true = refl
+and-false false = refl
+
+pub check-end : (ns ws : List ℕ) (rules n r : ℕ) → n ≤ r → ahead ns ws rules n r ≡ true
+unfolding goodRows edgesFrom rising
 check-end ns ws rules n r h = rw (rows-end ws n r h)
+
+module _ (ns ws : List ℕ) (rules r : ℕ) (h : r < length ws / 16) where
+  abbrev n : ℕ
+  n = length ws / 16
+
+  check-step : ahead ns ws rules n r
+      ≡ (goodEnds ns (rowAt ws r) && goodPairs rules (rowAt ws r) 5 0 && goodRows rules ns (rowsLeft ws n (r + 1)))
+      && (precedes (edgeOf (rowAt ws r)) (drop (r + 1) (edgesOf ws)) && rising (edgesFrom (rowsLeft ws n (r + 1))))
+  unfolding goodRows edgesFrom rising
+  check-step = rw (rows-step ws n r h, edges-left n (r + 1) ws)
+
+  pub ends-bad : goodEnds ns (rowAt ws r) ≡ false → ahead ns ws rules n r ≡ false
+  ends-bad e = rw (check-step, e)
+
+  pub order-bad : precedes (edgeOf (rowAt ws r)) (drop (r + 1) (edgesOf ws)) ≡ false → ahead ns ws rules n r ≡ false
+  order-bad e = rw (check-step, e) (and-false (goodEnds ns (rowAt ws r) && goodPairs rules (rowAt ws r) 5 0 && goodRows rules ns (rowsLeft ws n (r + 1))))
+
+  -- a row with bad pairs
+  pub row-bad : goodEnds ns (rowAt ws r) ≡ true → goodPairs rules (rowAt ws r) 5 0 ≡ false → ahead ns ws rules n r ≡ false
+  row-bad e b = rw (check-step, e, b)
+
+  pub row-passed : goodEnds ns (rowAt ws r) ≡ true → goodPairs rules (rowAt ws r) 5 0 ≡ true → precedes (edgeOf (rowAt ws r)) (drop (r + 1) (edgesOf ws)) ≡ true
+      → ahead ns ws rules n (r + 1) ≡ ahead ns ws rules n r
+  row-passed e p o = rw (check-step, e, p, o)
 
 -- pair number k of the row that starts at word a, as the code reads it
 abbrev pub pairAt : ℕ → List ℕ → ℕ → ℕ → Bool
@@ -106,11 +176,6 @@ pairs-more ws rules a k h e = rw (pairs-step ws rules a k h, e)
 -- a bad pair
 pub pairs-bad : (ws : List ℕ) (rules a k : ℕ) → k < 5 → pairAt rules ws a k ≡ false → goodPairs rules (take 16 (drop a ws)) (5 - k) k ≡ false
 pairs-bad ws rules a k h e = rw (pairs-step ws rules a k h, e)
-
--- a row with bad pairs
-pub row-bad : (ns ws : List ℕ) (rules n r : ℕ) → r < n → goodEnds ns (rowAt ws r) ≡ true → goodPairs rules (rowAt ws r) 5 0 ≡ false
-    → goodRows rules ns (rowsLeft ws n r) ≡ false
-row-bad ns ws rules n r h e b = rw (check-step ns ws rules n r h, e, b)
 
 -- ---- reduce lists
 
@@ -279,3 +344,12 @@ written-all row e l t =
 -- a part of 16 words, put back
 pub put-row : (ws row : List ℕ) (a : ℕ) → putMid a (a + 16 - a) ws row ≡ take a ws ++ (row ++ drop (a + 16) ws)
 put-row ws row a = let e : a + 16 - a ≡ 16 = omega arith in rw (e, drop-drop)
+
+-- a row written where the rows were moved up
+pub put-moved : (ws us vs : List ℕ) (i n : ℕ) (e : Edge) → us ≡ movedUp ws (16 * i) (16 * n) 16 → vs ≡ written us i e → i ≤ n → n < length ws / 16 → vs ≡ putIn ws i n e
+put-moved ws us vs i n e p q h l =
+    let rest = drop (16 * i) (take (16 * n) ws) ++ drop (16 * n + 16) ws in
+    let long = length-take-le (16 * i + 16) ws (omega arith) in
+    let before : take (16 * i) (take (16 * i + 16) ws ++ rest) ≡ take (16 * i) ws =
+    take-append-le (16 * i) (take (16 * i + 16) ws) rest (omega arith) ∙ take-take (16 * i) (16 * i + 16) ws (omega arith) in
+    rw (q, p, before, drop-at (take (16 * i + 16) ws) rest (16 * i + 16) long)

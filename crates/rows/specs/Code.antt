@@ -1,13 +1,13 @@
 -- What the code's structs and answers stand for.
-use Prim.Native.Nat.{ℕ, _+_, _*_, _≤_}
+use Prim.Native.Nat.{ℕ, suc, _+_, _*_, _≤_}
 use mathlib.Core.Path.{_≡_}
 use mathlib.Core.Bool.{true, false}
 use mathlib.Core.List.{List, [], _∷_, _++_, map}
 use mathlib.Core.Option.{none, some}
-use lib.ListN.{length, take, drop}
+use lib.ListN.{length, take, drop, set}
 use Rattle.words.specs.Limits.{rowWidth, mostReduces}
 use Rattle.words.specs.Outcome.{pick}
-use Rattle.rows.specs.Rows.{Reduce, Edge, edgesOf, rowWords, keyed, withReduce}
+use Rattle.rows.specs.Rows.{Reduce, Edge, edgeOf, rowsFrom, edgesFrom, edgesOf, rowWords, edgeWords, below, keyed, withReduce}
 use Rattle.rows.specs.declared.Reduce as coded
 use Rattle.rows.specs.declared.Edge as held
 use Rattle.rows.specs.declared.Added.{Added}
@@ -51,9 +51,26 @@ pub record Adds (h : held.Edge) (d : Reduce) (a : Added) : Type 0 where
 abbrev pub rowAt : List ℕ → ℕ → List ℕ
 rowAt ws i = take rowWidth (drop (rowWidth * i) ws)
 
+-- the words of a row but the last are those of its edge: while a table grows the last word is free
+abbrev pub Spells : List ℕ → Type 0
+Spells row = rowWords (edgeOf row) ≡ set row 15 0
+
 -- the words with row i written for e, the others as they were
 abbrev pub written : List ℕ → ℕ → Edge → List ℕ
 written ws i e = take (rowWidth * i) ws ++ (rowWords e ++ drop (rowWidth * i + rowWidth) ws)
+
+-- the words with a row for e before row i of the first n, which move up by one from there on; row n is given up
+abbrev pub putIn : List ℕ → ℕ → ℕ → Edge → List ℕ
+putIn ws i n e = take (rowWidth * i) ws ++ (rowWords e ++ (drop (rowWidth * i) (take (rowWidth * n) ws) ++ drop (rowWidth * n + rowWidth) ws))
+
+-- the words with the last word of each of the first n rows cleared: those rows are as their edges are written
+abbrev pub cleared : List ℕ → ℕ → List ℕ
+cleared ws n = edgeWords (edgesFrom (rowsFrom n ws)) ++ drop (rowWidth * n) ws
+
+-- how many of these edges are lower than the key, up to the first that is not: where its row stands, or would stand
+unfoldable pub placeOf : ℕ → ℕ → ℕ → List Edge → ℕ
+placeOf n k s [] = 0
+placeOf n k s (e ∷ es) = pick (below n k s e) (suc (placeOf n k s es)) 0
 
 -- the number of the first of these edges with the key, counted from i
 unfoldable pub numbered : ℕ → ℕ → ℕ → ℕ → List Edge → Found

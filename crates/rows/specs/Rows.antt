@@ -70,16 +70,42 @@ unfoldable pub edgeWords : List Edge → List ℕ
 edgeWords [] = []
 edgeWords (e ∷ es) = rowWords e ++ edgeWords es
 
+-- ---- the order of rows
+
+-- the edge's from, kind and symbol are lower than these: the first that differs decides
+unfoldable pub below : ℕ → ℕ → ℕ → Edge → Bool
+below n k s e = pick (eqb (e .from) n) (pick (eqb (e .kind) k) (ltb (e .sym) s) (ltb (e .kind) k)) (ltb (e .from) n)
+
+-- the edge is lower than the first of these
+unfoldable pub precedes : Edge → List Edge → Bool
+precedes d [] = true
+precedes d (e ∷ es) = below (e .from) (e .kind) (e .sym) d
+
+-- each is lower than the next
+unfoldable pub rising : List Edge → Bool
+rising [] = true
+rising (e ∷ es) = precedes e es && rising es
+
+-- an edge at its place: after the lower ones
+unfoldable pub insertEdge : Edge → List Edge → List Edge
+insertEdge e [] = e ∷ []
+insertEdge e (d ∷ es) = pick (below (e .from) (e .kind) (e .sym) d) (d ∷ insertEdge e es) (e ∷ d ∷ es)
+
 -- ---- the look-up
 
 -- the edge has this from, kind and symbol
 unfoldable pub keyed : ℕ → ℕ → ℕ → Edge → Bool
 keyed n k s e = eqb (e .from) n && eqb (e .kind) k && eqb (e .sym) s
 
--- the first row with the key
+-- the first row with the key; rows that rise have no other
 unfoldable pub find : List Edge → ℕ → ℕ → ℕ → Option Edge
 find [] n k s = none
 find (e ∷ es) n k s = elim (keyed n k s e) [ true ↦ some e | false ↦ find es n k s ]
+
+-- the rows that leave the node
+unfoldable pub leaving : ℕ → List Edge → List Edge
+leaving n [] = []
+leaving n (e ∷ es) = pick (eqb (e .from) n) (e ∷ leaving n es) (leaving n es)
 
 -- no row leaves the node
 unfoldable pub bare : List Edge → ℕ → Bool
@@ -132,14 +158,15 @@ goodRows rules ns (row ∷ rows) = goodRow rules ns row && goodRows rules ns row
 unfoldable pub nodesGood : ℕ → List ℕ → Bool
 nodesGood rules ns = not (ltb (length ns) 1) && not (ltb mostNodes (length ns)) && eqb (getD ns 0 0) 0 && goodNodes rules ns
 
--- whole rows, no more than 16,384, and each is good
+-- whole rows, no more than 16,384, each is good, and they rise
 unfoldable pub edgesGood : ℕ → List ℕ → List ℕ → Bool
-edgesGood rules ns ws = eqb (length ws % rowWidth) 0 && not (ltb mostEdges (length ws / rowWidth)) && goodRows rules ns (rowsOf ws)
+edgesGood rules ns ws =
+    eqb (length ws % rowWidth) 0 && not (ltb mostEdges (length ws / rowWidth)) && goodRows rules ns (rowsOf ws) && rising (edgesOf ws)
 
 -- the tables are good for so many rules; else 8
 unfoldable pub tablesGood : ℕ → List ℕ → List ℕ → Bool
 tablesGood rules ns ws = nodesGood rules ns && edgesGood rules ns ws
 
 unfoldable pub tabling : Unit {0}
-unfolding symbol reducesOf edgeOf rowsFrom edgesFrom reduceWords rowWords edgeWords keyed find bare withReduce goodNodes goodPair goodPairs rootToLeaf goodEnds goodRows nodesGood edgesGood tablesGood
+unfolding symbol reducesOf edgeOf rowsFrom edgesFrom reduceWords rowWords edgeWords below precedes rising insertEdge keyed find leaving bare withReduce goodNodes goodPair goodPairs rootToLeaf goodEnds goodRows nodesGood edgesGood tablesGood
 tabling = tt

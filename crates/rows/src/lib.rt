@@ -1,12 +1,13 @@
 // Node and edge rows, look-up, reduce lists and the table check.
 ghost use mathlib.Core.Path.{_≡_};
-ghost use mathlib.Core.Bool.{not};
+ghost use mathlib.Core.Bool.{true, not};
 ghost use Prim.Native.Nat.{_+_, _/_, _≤_, _<_};
 ghost use lib.Dec.{ltb};
-ghost use lib.ListN.{length, getD};
+ghost use lib.ListN.{length, getD, drop};
 ghost use Rattle.words.specs.Limits.{rowWidth, mostReduces, mostOffset};
-ghost use Rattle.rows.specs.Rows.{edgeOf, edgesOf, rowWords, keyed, bare, goodNodes, goodPair, rootToLeaf, goodEnds, nodesGood, edgesGood, tablesGood};
-ghost use Rattle.rows.specs.Code.{reduceIs, edgeIs, Holds, Adds, rowAt, written, looksUp};
+ghost use Rattle.rows.specs.Rows.{edgeOf, rowsFrom, edgesOf, rowWords, below, precedes, rising, keyed, bare, goodNodes, goodPair, rootToLeaf, goodEnds, nodesGood, edgesGood, tablesGood};
+ghost use Rattle.rows.specs.Code.{reduceIs, edgeIs, Holds, Adds, rowAt, Spells, written, putIn, cleared, placeOf, looksUp};
+ghost use Rattle.rules.specs.laws.Every.{All};
 
 // An edge's places for reduces.
 const PLACES: usize = words::MOST_REDUCES as usize;
@@ -141,6 +142,32 @@ pub fn write_edge(edges: &mut [u32], row: usize, e: Edge)
     write_row(&mut edges[at..at + words::ROW_WIDTH], e);
 }
 
+// A row for `e` before row number `row` of the first `count`, which move up by one from there on.
+pub fn insert_edge(edges: &mut [u32], row: usize, count: usize, e: Edge)
+    requires { ⌜ (row ≤ count) × (count < length (now edges) / rowWidth) × (e .count ≤ mostReduces) ⌝ }
+    ensures { λ _. ⌜ now (edges .exit) ≡ putIn (now (edges .entry)) row count (edgeIs e) ⌝ }
+{
+    words::move_up(
+        edges,
+        words::ROW_WIDTH * row,
+        words::ROW_WIDTH * count,
+        words::ROW_WIDTH,
+    );
+    write_edge(edges, row, e);
+}
+
+// The last words of the first `count` rows, which are free while a table grows, become 0.
+pub fn clear_last(edges: &mut [u32], count: usize)
+    requires { ⌜ (count ≤ length (now edges) / rowWidth) × All Spells (rowsFrom count (now edges)) ⌝ }
+    ensures { λ _. ⌜ now (edges .exit) ≡ cleared (now (edges .entry)) count ⌝ }
+{
+    let mut row = 0;
+    while row < count {
+        edges[words::ROW_WIDTH * row + 15] = 0;
+        row += 1;
+    }
+}
+
 // ---- reduce lists
 
 // The edge with `r` before its other reduces.
@@ -192,35 +219,65 @@ fn row_is(row: &[u32], from: words::NodeNo, kind: u32, symbol: words::SymbolNo) 
     row[2] == symbol.0
 }
 
-// The first row with this key.
+// Whether a row is lower than this key.
+fn row_below(row: &[u32], from: words::NodeNo, kind: u32, symbol: words::SymbolNo) -> bool
+    requires { ⌜ length (now row) ≡ rowWidth ⌝ }
+    ensures { λ r. ⌜ r ≡ below (from .0) kind (symbol .0) (edgeOf (now (row .entry))) ⌝ }
+{
+    if row[0] != from.0 {
+        return row[0] < from.0;
+    }
+    if row[1] != kind {
+        return row[1] < kind;
+    }
+    row[2] < symbol.0
+}
+
+// How many rows are lower than this key: where its row stands, or would stand. Found by halving.
+pub fn place_of(edges: &[u32], from: words::NodeNo, kind: u32, symbol: words::SymbolNo) -> usize
+    requires { ⌜ rising (edgesOf (now edges)) ≡ true ⌝ }
+    ensures { λ r. ⌜ r ≡ placeOf (from .0) kind (symbol .0) (edgesOf (now (edges .entry))) ⌝ }
+{
+    let mut low = 0;
+    let mut high = edges.len() / words::ROW_WIDTH;
+    while low < high {
+        let half = low + (high - low) / 2;
+        let at = words::ROW_WIDTH * half;
+        if row_below(&edges[at..at + words::ROW_WIDTH], from, kind, symbol) {
+            low = half + 1;
+        } else {
+            high = half;
+        }
+    }
+    low
+}
+
+// The row with this key.
 pub fn look_up(edges: &[u32], from: words::NodeNo, kind: u32, symbol: words::SymbolNo) -> Found
+    requires { ⌜ rising (edgesOf (now edges)) ≡ true ⌝ }
     ensures { λ r. ⌜ r ≡ looksUp (now (edges .entry)) (from .0) kind (symbol .0) ⌝ }
 {
-    let n = edges.len() / words::ROW_WIDTH;
-    let mut row = 0;
-    while row < n {
-        let at = words::ROW_WIDTH * row;
-        if row_is(&edges[at..at + words::ROW_WIDTH], from, kind, symbol) {
-            return Found::Row(row);
-        }
-        row += 1;
+    let row = place_of(edges, from, kind, symbol);
+    if edges.len() / words::ROW_WIDTH <= row {
+        return Found::Nothing;
+    }
+    let at = words::ROW_WIDTH * row;
+    if row_is(&edges[at..at + words::ROW_WIDTH], from, kind, symbol) {
+        return Found::Row(row);
     }
     Found::Nothing
 }
 
 // Whether any row leaves this node.
 pub fn leaves(edges: &[u32], from: words::NodeNo) -> bool
+    requires { ⌜ rising (edgesOf (now edges)) ≡ true ⌝ }
     ensures { λ r. ⌜ r ≡ not (bare (edgesOf (now (edges .entry))) (from .0)) ⌝ }
 {
-    let n = edges.len() / words::ROW_WIDTH;
-    let mut row = 0;
-    while row < n {
-        if edges[words::ROW_WIDTH * row] == from.0 {
-            return true;
-        }
-        row += 1;
+    let row = place_of(edges, from, 0, words::SymbolNo(0));
+    if edges.len() / words::ROW_WIDTH <= row {
+        return false;
     }
-    false
+    edges[words::ROW_WIDTH * row] == from.0
 }
 
 // ---- the table check
@@ -322,7 +379,25 @@ fn good_ends(nodes: &[u32], row: &[u32]) -> bool
     row[15] == 0
 }
 
-// Whether every row is good. The first bad word ends the scan.
+// Whether row number `row` is lower than the next, if there is one.
+fn precedes(edges: &[u32], row: usize) -> bool
+    requires { ⌜ row < length (now edges) / rowWidth ⌝ }
+    ensures { λ r. ⌜ r ≡ precedes (edgeOf (rowAt (now (edges .entry)) row)) (drop (row + 1) (edgesOf (now (edges .entry)))) ⌝ }
+{
+    if edges.len() / words::ROW_WIDTH <= row + 1 {
+        return true;
+    }
+    let at = words::ROW_WIDTH * row;
+    let next = at + words::ROW_WIDTH;
+    row_below(
+        &edges[at..next],
+        words::NodeNo(edges[next]),
+        edges[next + 1],
+        words::SymbolNo(edges[next + 2]),
+    )
+}
+
+// Whether every row is good and they rise. The first bad word ends the scan.
 fn edges_good(rules: u32, nodes: &[u32], edges: &[u32]) -> bool
     ensures { λ r. ⌜ r ≡ edgesGood rules (now (nodes .entry)) (now (edges .entry)) ⌝ }
 {
@@ -338,6 +413,10 @@ fn edges_good(rules: u32, nodes: &[u32], edges: &[u32]) -> bool
     'rows: while row < n {
         let at = words::ROW_WIDTH * row;
         if !good_ends(nodes, &edges[at..at + words::ROW_WIDTH]) {
+            ok = false;
+            break 'rows;
+        }
+        if !precedes(edges, row) {
             ok = false;
             break 'rows;
         }

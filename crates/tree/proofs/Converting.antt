@@ -1,15 +1,16 @@
 -- Laws of converting.
 use mathlib.Core.Path.{_≡_, refl, sym, ap, _∙_}
 use mathlib.Core.Bool.{Bool, true, false, not, _&&_}
-use mathlib.Core.List.{List, [], _∷_, _++_, append-nil}
+use mathlib.Core.List.{List, [], _∷_}
 use mathlib.Core.Option.{Option, some, none}
+use mathlib.Core.Logic.{_≢_}
 use Prim.Native.Nat.{ℕ, zero, suc, _+_, _*_, _-_, _≤_, _<_}
 use native.Mathlib.Numerals.{add-one}
 use native.Mathlib.Omega.{arith}
 use lib.Dec.{eqb, ltb}
-use lib.ListN.{length, take, drop, getD, length-append, drop-of-length-le}
-use lib.Seq.{length-take-le, take-all, drop-cons, getD-take, take-append-le}
-use borrow.Author.Tests.{eq-eqb, ne-eqb}
+use lib.ListN.{length, take, drop, getD, drop-of-length-le}
+use lib.Seq.{length-take-le, drop-cons}
+use borrow.Author.Tests.{ne-eqb, eqb-false, not-true}
 use Rattle.words.specs.Outcome.{Res, ok, bind, when}
 use Rattle.words.specs.Numbers.{Fault, noEdge}
 use Rattle.words.specs.declared.NodeNo.{NodeNo}
@@ -18,14 +19,19 @@ use Rattle.rules.specs.Rules.{ruleOf, theRules, source}
 use Rattle.rules.specs.Code.{sourceOf}
 use Rattle.rules.specs.declared.Conversion.{Conversion}
 use Rattle.rules.specs.declared.Conversion.the-variants.{From, No}
+use Rattle.rules.specs.laws.Every.{chain-at}
 use Rattle.rules.specs.laws.Words.{Ahead, ahead-end, ahead-here}
-use Rattle.rows.specs.Rows.{Reduce, Edge, edgeOf, edgesOf, find, withReduce}
-use Rattle.rows.specs.Code.{edgeIs, Holds, Adds, rowAt}
+use Rattle.rows.specs.Rows.{Reduce, Edge, edgeOf, insertEdge, find, leaving, withReduce}
+use Rattle.rows.specs.Code.{edgeIs, Holds, Adds, rowAt, placeOf}
 use Rattle.rows.specs.declared.Edge as held
 use Rattle.rows.specs.declared.Added.{Added}
 use Rattle.rows.specs.laws.Lookup.{edge-at, row-within}
-use Rattle.tree.specs.Grow.{Grown, Room, addEdge, addConverted, offsetOn, copyRow, copyBranches, branchAt, apart, convertTo, convertAt, convertNodes, convert, convertAll}
-use Rattle.tree.specs.Code.{roomOf, edgesIn, grownOf, grewOf, FoundAt, Rowed, StillRowed, Rows, reducesIn, copyOf, convertFirst}
+use Rattle.rows.specs.laws.Order.{place-within, Together, together}
+use Rattle.rows.specs.laws.Insert.{leaving-other}
+use Rattle.rows.specs.laws.Fair.{found}
+use Rattle.tree.specs.Grow.{Grown, Room, addEdge, addConverted, offsetOn, copyRow, copyBranches, apart, convertTo, convertAt, convertNodes, convert, convertAll}
+use Rattle.tree.specs.Code.{roomOf, edgesIn, grownOf, grewOf, FoundAt, Leads, Rowed, StillRowed, Rows, reducesIn, copyOf, convertFirst}
+use Rattle.tree.specs.laws.Counted.{apart-is}
 use Rattle.tree.specs.declared.Counts.{Counts}
 use Rattle.tree.specs.declared.Room as lent
 use Rattle.tree.specs.declared.Fault as why
@@ -63,7 +69,7 @@ module _ (e : held.Edge) (d : Reduce) (a : Added) (w : Adds e d a) where
   pub added-to : a .edge .to .0 ≡ e .to .0
   added-to = ap (λ (e : Edge). e .to) (w .rest)
 
-  added-kind : a .edge .kind ≡ e .kind
+  pub added-kind : a .edge .kind ≡ e .kind
   added-kind = ap (λ (e : Edge). e .kind) (w .rest)
 
   -- what the code adds is what the definition adds
@@ -77,157 +83,144 @@ module _ (e : held.Edge) (d : Reduce) (a : Added) (w : Adds e d a) where
 
 -- ---- one row
 
-module _ (z : lent.Room) (c : Counts) (ns es : List ℕ) (r : Rowed z c es) (rule n m : ℕ) (e : held.Edge) where
-  pub row-passed : (e .from .0 ≡ n → ⊥) → Rows z c (copyOf (roomOf z) rule n m (edgeIs e) (grownOf c ns es)) (On c) ns es
+module _ (z : lent.Room) (c : Counts) (ns es : List ℕ) (r : Rowed z c es) (rule m : ℕ) (e : held.Edge) where
+  pub row-kept : (i : ℕ) → FoundAt c es m (e .kind) (e .symbol .0) i → Rows z c (copyOf (roomOf z) rule m (edgeIs e) (grownOf c ns es)) (On c) ns es
   unfolding copyRow
-  row-passed d = record { answer = rw (ne-eqb _ _ d); rowed = (r, refl) }
+  row-kept i h = record { answer = rw (h .finds); rowed = (r, refl) }
 
-  module _ (f : e .from .0 ≡ n) where
-    pub row-kept : (i : ℕ) → FoundAt c es m (e .kind) (e .symbol .0) i → Rows z c (copyOf (roomOf z) rule n m (edgeIs e) (grownOf c ns es)) (On c) ns es
-    unfolding copyRow
-    row-kept i h = record { answer = rw (eq-eqb _ _ f, h .finds); rowed = (r, refl) }
+  pub row-copied : (a : Added) (x : Grew) (es′ : List ℕ) → Adds e (record { rule = rule; offset = offsetOn (e .kind) }) a
+      → find (edgesIn (c .edges) es) m (e .kind) (e .symbol .0) ≡ none
+      → Rows z c (addConverted (roomOf z) (grownOf c ns es) m (e .symbol .0) (edgeIs (a .edge)) (reducesIn a)) x ns es′
+      → Rows z c (copyOf (roomOf z) rule m (edgeIs e) (grownOf c ns es)) x ns es′
+  unfolding copyRow
+  row-copied a x es′ w h k = record { answer = rw h (k .answer ∙ added-is e _ a w (roomOf z) (grownOf c ns es) m (e .symbol .0)); rowed = k .rowed }
 
-    pub row-copied : (a : Added) (x : Grew) (es′ : List ℕ) → Adds e (record { rule = rule; offset = offsetOn (e .kind) }) a
-        → find (edgesIn (c .edges) es) m (e .kind) (e .symbol .0) ≡ none
-        → Rows z c (addConverted (roomOf z) (grownOf c ns es) m (e .symbol .0) (edgeIs (a .edge)) (reducesIn a)) x ns es′
-        → Rows z c (copyOf (roomOf z) rule n m (edgeIs e) (grownOf c ns es)) x ns es′
-    unfolding copyRow
-    row-copied a x es′ w h k = record { answer = rw (eq-eqb _ _ f, h) (k .answer ∙ added-is e _ a w (roomOf z) (grownOf c ns es) m (e .symbol .0)); rowed = k .rowed }
+-- ---- the rows of node n that stood when the copying to node m began
 
--- ---- the rows that stood when the copying began
-
--- after a row is copied the rows before it still stand
-pub record Extends (g g′ : Grown) : Type 0 where
-  pub more : List Edge
-  pub extended : g′ .edges ≡ g .edges ++ more
-
-pub edge-extends : (z : Room) (g g′ : Grown) (e : Edge) → ok g′ ≡ addEdge z g e → Extends g g′
+-- an edge of another node leaves them as they are
+edge-aside : (z : Room) (g g′ : Grown) (e : Edge) (n : ℕ) → eqb (e .from) n ≡ false → ok g′ ≡ addEdge z g e → leaving n (g′ .edges) ≡ leaving n (g .edges)
 unfolding addEdge when
-edge-extends z g g′ e h = by (ltb (length (g .edges)) (z .edges)) h
+edge-aside z g g′ e n d h = by (ltb (length (g .edges)) (z .edges)) h
   where
-    by : (b : Bool) → ok g′ ≡ when b noEdge (record { nodes = g .nodes; edges = g .edges ++ e ∷ [] }) → Extends g g′
-    by true h = record { more = e ∷ []; extended = let s : g′ ≡ record { nodes = g .nodes; edges = g .edges ++ e ∷ [] } = cc in ap (λ (g : Grown). g .edges) s }
+    by : (b : Bool) → ok g′ ≡ when b noEdge (record { nodes = g .nodes; edges = insertEdge e (g .edges) }) → leaving n (g′ .edges) ≡ leaving n (g .edges)
+    by true h =
+        let s : g′ ≡ record { nodes = g .nodes; edges = insertEdge e (g .edges) } = cc in
+        ap (λ (g : Grown). leaving n (g .edges)) s ∙ leaving-other e n (g .edges) d
     by false h = absurd (let y : _≡_ {A = ℕ} 0 1 = cc in omega arith)
 
-copied-extends : (z : Room) (rule m : ℕ) (g g′ : Grown) (e : Edge) (b : Bool) (old : Option Edge) → ok g′ ≡ copyRow z rule g m e b old → Extends g g′
+copied-aside : (z : Room) (rule n m : ℕ) (g g′ : Grown) (e : Edge) (old : Option Edge) → eqb m n ≡ false → ok g′ ≡ copyRow z rule g m e old
+    → leaving n (g′ .edges) ≡ leaving n (g .edges)
 unfolding copyRow addConverted
-copied-extends z rule m g g′ e false old h = record { more = []; extended = let s : g′ ≡ g = cc in ap (λ (g : Grown). g .edges) s ∙ sym (append-nil (g .edges)) }
-copied-extends z rule m g g′ e true (some d) h = record { more = []; extended = let s : g′ ≡ g = cc in ap (λ (g : Grown). g .edges) s ∙ sym (append-nil (g .edges)) }
-copied-extends z rule m g g′ e true none h = by (withReduce (record { rule = rule; offset = offsetOn (e .kind) }) (e .reduces)) h
+copied-aside z rule n m g g′ e (some d) q h = let s : g′ ≡ g = cc in ap (λ (g : Grown). leaving n (g .edges)) s
+copied-aside z rule n m g g′ e none q h = by (withReduce (record { rule = rule; offset = offsetOn (e .kind) }) (e .reduces)) h
   where
-    by : (o : Option (List Reduce)) → ok g′ ≡ addConverted z g m (e .sym) e o → Extends g g′
-    by (some ds) h = edge-extends z g g′ _ h
+    by : (o : Option (List Reduce)) → ok g′ ≡ addConverted z g m (e .sym) e o → leaving n (g′ .edges) ≡ leaving n (g .edges)
+    by (some ds) h = edge-aside z g g′ _ n q h
     by none h = absurd (let y : _≡_ {A = ℕ} 0 1 = cc in omega arith)
 
--- copying stands at row i of those
-pub record Copying (z : lent.Room) (rule n m : ℕ) (c₀ : Counts) (es₀ : List ℕ) (c : Counts) (es : List ℕ) (i : ℕ) : Type 0 where
-  pub inside : i ≤ c₀ .edges
-  pub grown : c₀ .edges ≤ c .edges
+-- copying stands at number k of those
+pub record Copying (z : lent.Room) (rule n m : ℕ) (c₀ : Counts) (es₀ : List ℕ) (c : Counts) (es : List ℕ) (k : ℕ) : Type 0 where
+  pub inside : k ≤ length (leaving n (edgesIn (c₀ .edges) es₀))
   pub rowed : Rowed z c es
   pub nodes-kept : c .nodes ≡ c₀ .nodes
   pub kept : length es ≡ length es₀
-  pub begins : take (c₀ .edges) (edgesIn (c .edges) es) ≡ edgesIn (c₀ .edges) es₀
-  pub same : (ns : List ℕ) → copyBranches (roomOf z) rule n m (drop i (edgesIn (c₀ .edges) es₀)) (grownOf c ns es)
-      ≡ copyBranches (roomOf z) rule n m (edgesIn (c₀ .edges) es₀) (grownOf c₀ ns es₀)
+  pub stay : leaving n (edgesIn (c .edges) es) ≡ leaving n (edgesIn (c₀ .edges) es₀)
+  pub same : (ns : List ℕ) → copyBranches (roomOf z) rule m (drop k (leaving n (edgesIn (c₀ .edges) es₀))) (grownOf c ns es)
+      ≡ copyBranches (roomOf z) rule m (leaving n (edgesIn (c₀ .edges) es₀)) (grownOf c₀ ns es₀)
 
 pub copying-start : (z : lent.Room) (rule n m : ℕ) (c : Counts) (es : List ℕ) → Rowed z c es → Copying z rule n m c es c es 0
-copying-start z rule n m c es r = record {
-  inside = omega arith;
-  grown = omega arith;
-  rowed = r;
-  nodes-kept = refl;
-  kept = refl;
-  begins = take-all (c .edges) (edgesIn (c .edges) es) (omega (arith, rows-count z c es r));
-  same = λ ns. refl;
-}
+copying-start z rule n m c es r = record { inside = omega arith; rowed = r; nodes-kept = refl; kept = refl; stay = refl; same = λ ns. refl }
 
-module _ (z : lent.Room) (rule n m : ℕ) (c₀ : Counts) (es₀ : List ℕ) (c : Counts) (es : List ℕ) (i : ℕ) (l : Copying z rule n m c₀ es₀ c es i) where
-  module _ (h : i < c₀ .edges) where
-    -- the row that is read is the next of them
-    row-next : drop i (edgesIn (c₀ .edges) es₀) ≡ edgeOf (rowAt es i) ∷ drop (i + 1) (edgesIn (c₀ .edges) es₀)
+module _ (z : lent.Room) (rule n m : ℕ) (c₀ : Counts) (es₀ : List ℕ) (c : Counts) (es : List ℕ) (k : ℕ) (l : Copying z rule n m c₀ es₀ c es k) where
+  abbrev rows : List Edge
+  rows = leaving n (edgesIn (c₀ .edges) es₀)
+
+  -- the row that is read, p being the node's first
+  module _ (h : k < length rows) (p : ℕ) (q : p ≡ placeOf n 0 0 (edgesIn (c .edges) es)) where
+    stands : Together n (edgesIn (c .edges) es) (edgeOf [])
+    stands = together n (edgesIn (c .edges) es) (edgeOf []) (l .rowed .order)
+
+    pub row-inside : p + k < c .edges
+    row-inside = omega (arith, q, stands .ends, ap length (l .stay), place-within (n + 1) 0 0 (edgesIn (c .edges) es), rows-count z c es (l .rowed))
+
+    row-next : drop k rows ≡ edgeOf (rowAt es (p + k)) ∷ drop (k + 1) rows
     unfolding edgesIn
     row-next =
-        let old = edgesIn (c₀ .edges) es₀ in
+        let now = edgesIn (c .edges) es in
         let ws = take (16 * c .edges) es in
         let d : Edge = edgeOf [] in
         let wide : 16 * c .edges ≤ length es = omega (arith, l .rowed .within, l .rowed .fits) in
-        let many : length old ≡ c₀ .edges = rw (← l .begins) (length-take-le (c₀ .edges) (edgesOf ws) (omega (arith, l .grown, rows-count z c es (l .rowed)))) in
-        let read : getD old i d ≡ edgeOf (rowAt es i) =
-        rw (← l .begins, getD-take (c₀ .edges) (edgesOf ws) i d h, edge-at ws i d (omega (arith, l .grown, length-take-le (16 * c .edges) es wide)), row-within es (c .edges) i (omega (arith, l .grown))) in
-        rw (drop-cons old i d (omega arith), read, add-one)
+        let here : getD rows k d ≡ getD now (p + k) d = rw (q, ← (l .stay)) (sym (stands .stand k (omega (arith, ap length (l .stay))))) in
+        let read : getD now (p + k) d ≡ edgeOf (rowAt es (p + k)) = edge-at ws (p + k) d (omega (arith, row-inside, length-take-le (16 * c .edges) es wide)) ∙ rw (row-within es (c .edges) (p + k) row-inside) in
+        rw (drop-cons rows k d h, here, read, add-one)
 
-    copy-step : (ns : List ℕ) → bind (copyOf (roomOf z) rule n m (edgeOf (rowAt es i)) (grownOf c ns es)) (λ g. copyBranches (roomOf z) rule n m (drop (i + 1) (edgesIn (c₀ .edges) es₀)) g)
-        ≡ copyBranches (roomOf z) rule n m (edgesIn (c₀ .edges) es₀) (grownOf c₀ ns es₀)
+    copy-step : (ns : List ℕ) → bind (copyOf (roomOf z) rule m (edgeOf (rowAt es (p + k))) (grownOf c ns es)) (λ g. copyBranches (roomOf z) rule m (drop (k + 1) rows) g)
+        ≡ copyBranches (roomOf z) rule m rows (grownOf c₀ ns es₀)
     unfolding copyBranches
     copy-step ns = rw row-next at (l .same ns)
 
-    module _ (e : held.Edge) (o : Holds e (edgeOf (rowAt es i))) (r : Grew) (es′ : List ℕ)
-        (w : (ns : List ℕ) → Rows z c (copyOf (roomOf z) rule n m (edgeIs e) (grownOf c ns es)) r ns es′) where
-      row-answer : (ns : List ℕ) → grewOf r ns es′ ≡ copyOf (roomOf z) rule n m (edgeOf (rowAt es i)) (grownOf c ns es)
-      row-answer ns = w ns .answer ∙ ap (λ (e : Edge). copyOf (roomOf z) rule n m e (grownOf c ns es)) (o .says)
+    module _ (e : held.Edge) (o : Holds e (edgeOf (rowAt es (p + k)))) (r : Grew) (es′ : List ℕ)
+        (w : (ns : List ℕ) → Rows z c (copyOf (roomOf z) rule m (edgeIs e) (grownOf c ns es)) r ns es′) where
+      row-answer : (ns : List ℕ) → grewOf r ns es′ ≡ copyOf (roomOf z) rule m (edgeOf (rowAt es (p + k))) (grownOf c ns es)
+      row-answer ns = w ns .answer ∙ ap (λ (e : Edge). copyOf (roomOf z) rule m e (grownOf c ns es)) (o .says)
 
-      pub copying-more : (d : Counts) → r ≡ On d → length es′ ≡ length es → Copying z rule n m c₀ es₀ d es′ (i + 1)
-      copying-more d q k =
+      pub copying-more : (d : Counts) → n ≢ m → r ≡ On d → length es′ ≡ length es → Copying z rule n m c₀ es₀ d es′ (k + 1)
+      copying-more d apart q y =
           let s : StillRowed z (c .nodes) (On d) es′ = rw q at (w [] .rowed) in
-          let x = copied-extends (roomOf z) rule m (grownOf c [] es) (grownOf d [] es′) (edgeIs e) _ _ (rw q at (w [] .answer)) in
-          let was = rows-count z c es (l .rowed) in
-          let is = rows-count z d es′ (s .0) in
-          let long : c .edges ≤ d .edges = omega (arith, length-append (edgesIn (c .edges) es) (x .more), ap length (x .extended)) in
           record {
             inside = omega arith;
-            grown = omega (arith, l .grown);
             rowed = s .0;
             nodes-kept = s .1 ∙ l .nodes-kept;
-            kept = k ∙ l .kept;
-            begins = rw (x .extended, take-append-le (c₀ .edges) (edgesIn (c .edges) es) (x .more) (omega (arith, l .grown))) (l .begins);
+            kept = y ∙ l .kept;
+            stay = copied-aside (roomOf z) rule n m (grownOf c [] es) (grownOf d [] es′) (edgeIs e) _ (ne-eqb m n (λ x. apart (sym x))) (rw q at (w [] .answer)) ∙ l .stay;
             same = λ ns. sym (on-then r ns es′ _ (row-answer ns) d q _) ∙ copy-step ns;
           }
 
       pub copying-refused : (y : why.Fault) → r ≡ Refused y → (ns : List ℕ)
-          → Rows z c₀ (copyBranches (roomOf z) rule n m (edgesIn (c₀ .edges) es₀) (grownOf c₀ ns es₀)) (Refused y) ns es′
+          → Rows z c₀ (copyBranches (roomOf z) rule m rows (grownOf c₀ ns es₀)) (Refused y) ns es′
       copying-refused y q ns = record { answer = sym (refused-then r ns es′ _ (row-answer ns) y q _) ∙ copy-step ns; rowed = tt }
 
-  pub copying-end : c₀ .edges ≤ i → (ns : List ℕ) → Rows z c₀ (copyBranches (roomOf z) rule n m (edgesIn (c₀ .edges) es₀) (grownOf c₀ ns es₀)) (On c) ns es
+  pub copying-end : length rows ≤ k → (ns : List ℕ) → Rows z c₀ (copyBranches (roomOf z) rule m rows (grownOf c₀ ns es₀)) (On c) ns es
   unfolding copyBranches
-  copying-end h ns =
-      let many = length-take-le (c₀ .edges) (edgesIn (c .edges) es) (omega (arith, l .grown, rows-count z c es (l .rowed))) in
-      let none : drop i (edgesIn (c₀ .edges) es₀) ≡ [] = drop-of-length-le (edgesIn (c₀ .edges) es₀) {i = i} (omega (arith, many, ap length (l .begins))) in
-      record { answer = rw none at (l .same ns); rowed = (l .rowed, l .nodes-kept) }
+  copying-end h ns = record { answer = rw (drop-of-length-le rows {i = k} h) at (l .same ns); rowed = (l .rowed, l .nodes-kept) }
 
 -- ---- one node
 
-module _ (z : lent.Room) (c : Counts) (ns es : List ℕ) (r : Rowed z c es) (wide : c .nodes ≤ length ns) where
-  pub apart-is : (n m : ℕ) → n < c .nodes → m < c .nodes → apart (grownOf c ns es) n m ≡ not (eqb n m) && eqb (getD ns n 0) 0 && eqb (getD ns m 0) 0
-  unfolding apart branchAt
-  apart-is n m h k = rw (getD-take (c .nodes) ns n 0 h, getD-take (c .nodes) ns m 0 k)
+module _ (z : lent.Room) (c : Counts) (ns es : List ℕ) (r : Rowed z c es) (rule u n : ℕ) (e : held.Edge) (to : e .to .0 < c .nodes) where
+  abbrev result : Res Fault Grown
+  result = convertTo (roomOf z) rule u (grownOf c ns es) n (edgeIs e) (find (edgesIn (c .edges) es) n 1 u)
 
-  module _ (rule u n : ℕ) (e : held.Edge) (to : e .to .0 < c .nodes) where
-    abbrev result : Res Fault Grown
-    result = convertTo (roomOf z) rule u (grownOf c ns es) n (edgeIs e) (find (edgesIn (c .edges) es) n 1 u)
+  pub new-edge : (a : Added) (x : Grew) (es′ : List ℕ) → Adds e (record { rule = rule; offset = 0 }) a → find (edgesIn (c .edges) es) n 1 u ≡ none
+      → Rows z c (addConverted (roomOf z) (grownOf c ns es) n u (edgeIs (a .edge)) (reducesIn a)) x ns es′ → Rows z c result x ns es′
+  unfolding convertTo
+  new-edge a x es′ w h k = record { answer = rw h (k .answer ∙ added-is e _ a w (roomOf z) (grownOf c ns es) n u); rowed = k .rowed }
 
-    pub new-edge : (a : Added) (x : Grew) (es′ : List ℕ) → Adds e (record { rule = rule; offset = 0 }) a → find (edgesIn (c .edges) es) n 1 u ≡ none
-        → Rows z c (addConverted (roomOf z) (grownOf c ns es) n u (edgeIs (a .edge)) (reducesIn a)) x ns es′ → Rows z c result x ns es′
-    unfolding convertTo
-    new-edge a x es′ w h k = record { answer = rw h (k .answer ∙ added-is e _ a w (roomOf z) (grownOf c ns es) n u); rowed = k .rowed }
+  module _ (i : ℕ) (f : FoundAt c es n 1 u i) (d : held.Edge) (o : Holds d (edgeOf (rowAt es i))) where
+    pub other-to : d .to .0 < c .nodes
+    other-to = read-leads z c es i d r (f .within) o
 
-    module _ (i : ℕ) (f : FoundAt c es n 1 u i) (d : held.Edge) (o : Holds d (edgeOf (rowAt es i))) where
-      pub other-to : d .to .0 < c .nodes
-      other-to = read-leads z c es i d r (f .within) o
+    module _ (b : Bool) (q : b ≡ not (eqb (e .to .0) (d .to .0)) && eqb (getD ns (e .to .0) 0) 0 && eqb (getD ns (d .to .0) 0) 0) where
+      test : apart (grownOf c ns es) (e .to .0) (edgeOf (rowAt es i) .to) ≡ b
+      test = rw (← (held-to d _ o)) (apart-is c ns es (e .to .0) (d .to .0) to other-to ∙ sym q)
 
-      module _ (b : Bool) (q : b ≡ not (eqb (e .to .0) (d .to .0)) && eqb (getD ns (e .to .0) 0) 0 && eqb (getD ns (d .to .0) 0) 0) where
-        test : apart (grownOf c ns es) (e .to .0) (edgeOf (rowAt es i) .to) ≡ b
-        test = rw (← (held-to d _ o)) (apart-is (e .to .0) (d .to .0) to other-to ∙ sym q)
+      pub bad-copy : b ≡ false → Rows z c result (Refused code.BadCopy) ns es
+      unfolding convertTo bind when
+      bad-copy h = record { answer = rw (f .finds, test, h); rowed = tt }
 
-        pub bad-copy : b ≡ false → Rows z c result (Refused code.BadCopy) ns es
-        unfolding convertTo bind when
-        bad-copy h = record { answer = rw (f .finds, test, h); rowed = tt }
+      -- two different branches
+      pub differ : b ≡ true → e .to .0 ≢ d .to .0
+      differ h = eqb-false _ _ (not-true _ (chain-at (not (eqb (e .to .0) (d .to .0))) (eqb (getD ns (e .to .0) 0) 0 ∷ eqb (getD ns (d .to .0) 0) 0 ∷ []) (sym q ∙ h) 0))
 
-        pub copied : b ≡ true → (x : Grew) (es′ : List ℕ)
-            → Rows z c (copyBranches (roomOf z) rule (e .to .0) (d .to .0) (edgesIn (c .edges) es) (grownOf c ns es)) x ns es′ → Rows z c result x ns es′
-        unfolding convertTo bind when
-        copied h x es′ k = record { answer = rw (f .finds, test, h, ← (held-to d _ o)) (k .answer); rowed = k .rowed }
+      pub copied : b ≡ true → (x : Grew) (es′ : List ℕ)
+          → Rows z c (copyBranches (roomOf z) rule (d .to .0) (leaving (e .to .0) (edgesIn (c .edges) es)) (grownOf c ns es)) x ns es′ → Rows z c result x ns es′
+      unfolding convertTo bind when
+      copied h x es′ k = record { answer = rw (f .finds, test, h, ← (held-to d _ o)) (k .answer); rowed = k .rowed }
 
 module _ (z : lent.Room) (c : Counts) (ns es : List ℕ) (r : Rowed z c es) (rule t u n : ℕ) where
+  -- the edge that is found there is a variable edge
+  pub found-kind : (i : ℕ) (e : held.Edge) → FoundAt c es n 1 t i → Holds e (edgeOf (rowAt es i)) → e .kind ≡ 1
+  found-kind i e f o = ap (λ (e : Edge). e .kind) (o .says) ∙ found (Leads (c .nodes)) (edgesIn (c .edges) es) n 1 t (edgeOf (rowAt es i)) (r .leads) (f .finds) .2
+
   pub no-edge : find (edgesIn (c .edges) es) n 1 t ≡ none
       → Rows z c (convertAt (roomOf z) rule u (grownOf c ns es) n (find (edgesIn (c .edges) es) n 1 t)) (On c) ns es
   unfolding convertAt

@@ -9,7 +9,7 @@ use native.Mathlib.Numerals.{add-one}
 use native.Mathlib.Omega.{arith}
 use lib.Dec.{ltb, eqb}
 use lib.ListN.{length, drop, getD, getElem?, length-append, drop-of-length-le}
-use lib.Seq.{length-take-le, getD-take, drop-cons}
+use lib.Seq.{drop-cons}
 use Rattle.words.specs.Outcome.{ok, bind, when}
 use Rattle.words.specs.Numbers.{Fault, noNode, noEdge}
 use Rattle.words.specs.Limits.{mostRules}
@@ -20,11 +20,12 @@ use Rattle.rules.specs.Code.{someRules, sourceOf}
 use Rattle.rules.specs.declared.Conversion.{Conversion}
 use Rattle.rules.specs.declared.Conversion.the-variants.{From, No}
 use Rattle.rules.specs.laws.Words.{from-item, rules-most, Ahead, Here, ahead-start, ahead-end, ahead-here}
-use Rattle.rows.specs.Rows.{Edge, edgeOf, find}
+use Rattle.rows.specs.Rows.{Edge, edgeOf, insertEdge, find}
 use Rattle.rows.specs.Code.{Holds, rowAt}
 use Rattle.rows.specs.declared.Edge as held
-use Rattle.tree.specs.Grow.{Grown, Room, kind, sym, edgeFor, branchAt, addEdge, addNode, placeLast, placeInner, place, placeRule, placeRules}
+use Rattle.tree.specs.Grow.{Grown, Room, kind, sym, edgeFor, addEdge, addNode, placeLast, placeInner, place, placeRule, placeRules}
 use Rattle.tree.specs.Code.{roomOf, edgesIn, grownOf, FoundAt, Stands, Meets, branchOf, innerOf, placeFirst, StillAt, Places}
+use Rattle.tree.specs.laws.Counted.{nodes-count, branch-is}
 use Rattle.tree.specs.declared.Counts.{Counts}
 use Rattle.tree.specs.declared.Room as lent
 use Rattle.tree.specs.declared.Fault as why
@@ -43,7 +44,7 @@ unfolding addNode addEdge bind when
 node-longer z g n k y w g′ e = go (ltb (length (g .nodes)) (z .nodes)) (ltb (length (g .edges)) (z .edges)) e
   where
     more : ℕ → Grown
-    more m = record { nodes = g .nodes ++ w ∷ []; edges = g .edges ++ record { from = n; kind = k; sym = y; to = m; reduces = [] } ∷ [] }
+    more m = record { nodes = g .nodes ++ w ∷ []; edges = insertEdge (record { from = n; kind = k; sym = y; to = m; reduces = [] }) (g .edges) }
 
     go : (a b : Bool) → ok g′ ≡ bind (when a noNode (length (g .nodes))) (λ m. when b noEdge (more m)) → length (g′ .nodes) ≡ length (g .nodes) + 1
     go true true e = let s : g′ ≡ more (length (g .nodes)) = cc in ap (λ (g : Grown). length (g .nodes)) s ∙ length-append (g .nodes) (w ∷ [])
@@ -54,10 +55,10 @@ module _ (z : lent.Room) (c : Counts) (ns es : List ℕ) (s : Stands z c ns es) 
   module _ (r : Grew) (ns′ es′ : List ℕ) (m : Meets z (addNode (roomOf z) (grownOf c ns es) n k y 0) r ns′ es′) where
     pub branch-made : (d : Counts) → r ≡ On d → Places z (branchOf (roomOf z) (grownOf c ns es) n k y) (At d (record { 0 = c .nodes })) ns′ es′
     branch-made d e =
-        let old = length-take-le (c .nodes) ns (omega (arith, s .within, s .fits)) in
+        let old = nodes-count z c ns es s in
         let t : Stands z d ns′ es′ = rw e at (m .stands) in
         let a : ok (grownOf d ns′ es′) ≡ addNode (roomOf z) (grownOf c ns es) n k y 0 = rw e at (m .answer) in
-        let new = length-take-le (d .nodes) ns′ (omega (arith, t .within, t .fits)) in
+        let new = nodes-count z d ns′ es′ t in
         let longer = node-longer (roomOf z) (grownOf c ns es) n k y 0 (grownOf d ns′ es′) a in
         record {
           answer = λ rest. path.sym (on-then r ns′ es′ _ (m .answer) d e _ ∙ rw old);
@@ -70,17 +71,13 @@ module _ (z : lent.Room) (c : Counts) (ns es : List ℕ) (s : Stands z c ns es) 
 -- ---- an item: 11 at a leaf
 
 module _ (z : lent.Room) (c : Counts) (ns es : List ℕ) (s : Stands z c ns es) (n : ℕ) (h : n < c .nodes) (i : Item) where
-  branch-is : branchAt (grownOf c ns es) n ≡ eqb (getD ns n 0) 0
-  unfolding branchAt
-  branch-is = rw (getD-take (c .nodes) ns n 0 h)
-
   pub inner-leaf : eqb (getD ns n 0) 0 ≡ false → Places z (innerOf (roomOf z) (grownOf c ns es) n i) (Stuck code.Collides) ns es
   unfolding bind when
-  inner-leaf l = record { answer = λ rest. rw (branch-is, l); stands = tt }
+  inner-leaf l = record { answer = λ rest. rw (branch-is c ns es n h, l); stands = tt }
 
   pub last-leaf : (r : ℕ) → eqb (getD ns n 0) 0 ≡ false → Meets z (place (roomOf z) r (i ∷ []) (grownOf c ns es) n) (Refused code.Collides) ns es
   unfolding place bind when
-  last-leaf r l = record { answer = rw (branch-is, l); stands = tt }
+  last-leaf r l = record { answer = rw (branch-is c ns es n h, l); stands = tt }
 
   -- at a branch, the key k, y that the code looked up is the item's
   module _ (b : eqb (getD ns n 0) 0 ≡ true) (k y : ℕ) (p : k ≡ kind i) (q : y ≡ sym i) where
@@ -90,23 +87,23 @@ module _ (z : lent.Room) (c : Counts) (ns es : List ℕ) (s : Stands z c ns es) 
     pub inner-made : (r : Placed) (ns′ es′ : List ℕ) → find (edgesIn (c .edges) es) n k y ≡ none
         → Places z (branchOf (roomOf z) (grownOf c ns es) n k y) r ns′ es′ → Places z (innerOf (roomOf z) (grownOf c ns es) n i) r ns′ es′
     unfolding bind when placeInner
-    inner-made r ns′ es′ f m = record { answer = λ rest. rw (branch-is, b, edge-is, f, ← p, ← q) (m .answer rest); stands = m .stands }
+    inner-made r ns′ es′ f m = record { answer = λ rest. rw (branch-is c ns es n h, b, edge-is, f, ← p, ← q) (m .answer rest); stands = m .stands }
 
     pub inner-follows : (row : ℕ) (e : held.Edge) → FoundAt c es n k y row → Holds e (edgeOf (rowAt es row))
         → Places z (innerOf (roomOf z) (grownOf c ns es) n i) (At c (e .to)) ns es
     unfolding bind when placeInner
     inner-follows row e f o =
         let to = held-to e _ o in
-        record { answer = λ rest. rw (branch-is, b, edge-is, f .finds, to); stands = (s, read-leads z c es row e (s .rowed) (f .within) o) }
+        record { answer = λ rest. rw (branch-is c ns es n h, b, edge-is, f .finds, to); stands = (s, read-leads z c es row e (s .rowed) (f .within) o) }
 
     pub last-there : (r row : ℕ) → FoundAt c es n k y row → Meets z (place (roomOf z) r (i ∷ []) (grownOf c ns es) n) (Refused code.Collides) ns es
     unfolding place bind when placeLast
-    last-there r row f = record { answer = rw (branch-is, b, edge-is, f .finds); stands = tt }
+    last-there r row f = record { answer = rw (branch-is c ns es n h, b, edge-is, f .finds); stands = tt }
 
     pub last-made : (r : ℕ) (a : Grew) (ns′ es′ : List ℕ) → find (edgesIn (c .edges) es) n k y ≡ none
         → Meets z (addNode (roomOf z) (grownOf c ns es) n k y r) a ns′ es′ → Meets z (place (roomOf z) r (i ∷ []) (grownOf c ns es) n) a ns′ es′
     unfolding place bind when placeLast
-    last-made r a ns′ es′ f m = record { answer = rw (branch-is, b, edge-is, f, ← p, ← q) (m .answer); stands = m .stands }
+    last-made r a ns′ es′ f m = record { answer = rw (branch-is c ns es n h, b, edge-is, f, ← p, ← q) (m .answer); stands = m .stands }
 
 -- ---- a body, from item k on
 

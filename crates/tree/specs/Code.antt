@@ -1,17 +1,17 @@
 -- What the code's structs and the two lent slices stand for: first for callers of `grow`, then for its parts.
-use Prim.Native.Nat.{ℕ, _*_, _≤_, _<_}
+use Prim.Native.Nat.{ℕ, _+_, _*_, _≤_, _<_}
 use mathlib.Core.Path.{_≡_}
+use mathlib.Core.Bool.{true}
 use mathlib.Core.List.{List}
 use mathlib.Core.Option.{Option, some, none}
-use lib.Dec.{eqb}
-use lib.ListN.{length, take}
+use lib.ListN.{length, getD, take}
 use Rattle.words.specs.Limits.{mostNodes, rowWidth, mostReduces}
 use Rattle.words.specs.Outcome.{Res, ok, no, bind, when, pick}
 use Rattle.words.specs.Numbers.{Fault, collides, noNode, noEdge, sixthReduce, farOffset, badCopy, manyRows, noClone}
 use Rattle.rules.specs.Rules.{Item, ruleOf, source}
 use Rattle.rules.specs.laws.Every.{All}
-use Rattle.rows.specs.Rows.{Reduce, Edge, edgeOf, edgesOf, edgeWords, find}
-use Rattle.rows.specs.Code.{edgeIs, rowAt}
+use Rattle.rows.specs.Rows.{Reduce, Edge, edgeOf, rowsFrom, edgesOf, edgeWords, rising, find}
+use Rattle.rows.specs.Code.{edgeIs, rowAt, Spells, putIn, cleared, placeOf}
 use Rattle.rows.specs.declared.Added.{Added}
 use Rattle.rows.specs.declared.Found.{Found}
 use Rattle.rows.specs.declared.Found.the-variants.{Row, Nothing}
@@ -74,6 +74,11 @@ abbrev pub grewOf : Grew → List ℕ → List ℕ → Res Fault Grown
 grewOf (On c) ns es = ok (grownOf c ns es)
 grewOf (Refused f) ns es = no (faultOf f)
 
+-- the rows so far lie within the slice and rise
+pub record Rising (c : Counts) (es : List ℕ) : Type 0 where
+  pub fits : rowWidth * c .edges ≤ length es
+  pub order : rising (edgesIn (c .edges) es) ≡ true
+
 -- ---- a look-up
 
 -- a row of those so far, and what is found there
@@ -92,12 +97,18 @@ pub record Leads (k : ℕ) (e : Edge) : Type 0 where
   pub to-in : e .to < k
   pub few : length (e .reduces) ≤ mostReduces
 
--- the edge rows: the room lies within the slice, and the rows are as edges are written
+-- a row's last word is its age while the tree grows: a number below k
+abbrev pub Aged : ℕ → List ℕ → Type 0
+Aged k row = getD row 15 0 < k
+
+-- the edge rows: the room lies within the slice, and the rows but for their ages, which are below their count, are as edges are written, and rise
 pub record Rowed (z : lent.Room) (c : Counts) (es : List ℕ) : Type 0 where
   pub within : c .edges ≤ z .edges
   pub fits : rowWidth * z .edges ≤ length es
-  pub words : edgeWords (edgesIn (c .edges) es) ≡ take (rowWidth * c .edges) es
+  pub words : All Spells (rowsFrom (c .edges) es)
+  pub aged : All (Aged (c .edges)) (rowsFrom (c .edges) es)
   pub leads : All (Leads (c .nodes)) (edgesIn (c .edges) es)
+  pub order : rising (edgesIn (c .edges) es) ≡ true
 
 -- and the nodes, with the root among them
 pub record Stands (z : lent.Room) (c : Counts) (ns es : List ℕ) : Type 0 where
@@ -118,6 +129,12 @@ pub record Rows (z : lent.Room) (c : Counts) (x : Res Fault Grown) (r : Grew) (n
   pub answer : grewOf r ns es ≡ x
   pub rowed : StillRowed z (c .nodes) r es
 
+-- a row more, put in at the place of its key
+abbrev pub Puts : Counts → Edge → List ℕ → Grew → List ℕ → Type 0
+Puts c e es (On d) es′ = (d ≡ record { nodes = c .nodes; edges = c .edges + 1 })
+    × (es′ ≡ putIn es (placeOf (e .from) (e .kind) (e .sym) (edgesIn (c .edges) es)) (c .edges) e)
+Puts c e es (Refused f) es′ = Unit {0}
+
 abbrev pub StillStands : lent.Room → Grew → List ℕ → List ℕ → Type 0
 StillStands z (On c) ns es = Stands z c ns es
 StillStands z (Refused f) ns es = Unit {0}
@@ -125,6 +142,15 @@ StillStands z (Refused f) ns es = Unit {0}
 pub record Meets (z : lent.Room) (x : Res Fault Grown) (r : Grew) (ns es : List ℕ) : Type 0 where
   pub answer : grewOf r ns es ≡ x
   pub stands : StillStands z r ns es
+
+-- the end of a build: rows whose last words can be cleared, and those rows then
+abbrev pub Ready : Grew → List ℕ → Type 0
+Ready (On c) es = (rowWidth * c .edges ≤ length es) × All Spells (rowsFrom (c .edges) es)
+Ready (Refused f) es = Unit {0}
+
+abbrev pub Finishes : Grew → List ℕ → List ℕ → Type 0
+Finishes (On c) es es′ = es′ ≡ cleared es (c .edges)
+Finishes (Refused f) es es′ = Unit {0}
 
 -- a new branch for the items that come after
 abbrev pub branchOf : Room → Grown → ℕ → ℕ → ℕ → (Grown → ℕ → Res Fault Grown) → Res Fault Grown
@@ -157,9 +183,9 @@ placeFirst z n ws g = placeRule z n (ruleOf ws) g (source (ruleOf ws .body))
 abbrev pub reducesIn : Added → Option (List Reduce)
 reducesIn a = pick (a .ok) (some (edgeIs (a .edge) .reduces)) none
 
--- one row, copied from node n to node m
-abbrev pub copyOf : Room → ℕ → ℕ → ℕ → Edge → Grown → Res Fault Grown
-copyOf z c n m e g = copyRow z c g m e (eqb (e .from) n) (find (g .edges) m (e .kind) (e .sym))
+-- one row, copied to node m
+abbrev pub copyOf : Room → ℕ → ℕ → Edge → Grown → Res Fault Grown
+copyOf z c m e g = copyRow z c g m e (find (g .edges) m (e .kind) (e .sym))
 
 abbrev pub convertFirst : Room → ℕ → List ℕ → Grown → Res Fault Grown
 convertFirst z n ws g = convert z n (ruleOf ws) g (source (ruleOf ws .body))

@@ -1,5 +1,5 @@
 -- Growing the tree: rules in order, then conversions in order. Refusals 11, 12, 13, 14 and 16.
-use mathlib.Core.Bool.{Bool, true, false, _&&_, not}
+use mathlib.Core.Bool.{Bool, _&&_, not}
 use mathlib.Core.List.{List, [], _∷_, _++_}
 use mathlib.Core.Option.{Option, some, none}
 use Prim.Native.Nat.{ℕ, zero, suc}
@@ -8,7 +8,7 @@ use lib.ListN.{length, getD}
 use Rattle.words.specs.Outcome.{Res, ok, no, bind, when}
 use Rattle.words.specs.Numbers.{Fault, collides, noNode, noEdge, sixthReduce, badCopy, faultNumber}
 use Rattle.rules.specs.Rules.{Item, con, slot, Rule, source}
-use Rattle.rows.specs.Rows.{Reduce, Edge, keyed, find, withReduce}
+use Rattle.rows.specs.Rows.{Reduce, Edge, below, insertEdge, keyed, find, leaving, withReduce}
 
 -- the nodes and edges so far
 pub record Grown : Type 0 where
@@ -36,9 +36,9 @@ edgeFor g n i = find (g .edges) n (kind i) (sym i)
 unfoldable pub branchAt : Grown → ℕ → Bool
 branchAt g n = eqb (getD (g .nodes) n 0) 0
 
--- an edge is appended, or 13
+-- an edge is put at its place, or 13
 unfoldable pub addEdge : Room → Grown → Edge → Res Fault Grown
-addEdge z g e = when (ltb (length (g .edges)) (z .edges)) noEdge (record { nodes = g .nodes; edges = g .edges ++ e ∷ [] })
+addEdge z g e = when (ltb (length (g .edges)) (z .edges)) noEdge (record { nodes = g .nodes; edges = insertEdge e (g .edges) })
 
 -- a new node with the word w, or 12, and an edge to it from node n, of kind k for symbol s, with no reduces
 unfoldable pub addNode : Room → Grown → ℕ → ℕ → ℕ → ℕ → Res Fault Grown
@@ -88,26 +88,24 @@ unfoldable pub offsetOn : ℕ → ℕ
 offsetOn zero = 0
 offsetOn (suc k) = 1
 
--- one row, if it leaves the node copied from; a key that m has is kept
-unfoldable pub copyRow : Room → ℕ → Grown → ℕ → Edge → Bool → Option Edge → Res Fault Grown
-copyRow z c g m e false old = ok g
-copyRow z c g m e true (some d) = ok g
-copyRow z c g m e true none = converted z c (offsetOn (e .kind)) g m (e .sym) e
+-- one row; a key that m has is kept
+unfoldable pub copyRow : Room → ℕ → Grown → ℕ → Edge → Option Edge → Res Fault Grown
+copyRow z c g m e (some d) = ok g
+copyRow z c g m e none = converted z c (offsetOn (e .kind)) g m (e .sym) e
 
--- the edges of n among these rows are copied to m, in row order
-unfoldable pub copyBranches : Room → ℕ → ℕ → ℕ → List Edge → Grown → Res Fault Grown
-copyBranches z c n m [] g = ok g
-copyBranches z c n m (e ∷ es) g =
-    bind (copyRow z c g m e (eqb (e .from) n) (find (g .edges) m (e .kind) (e .sym))) λ g. copyBranches z c n m es g
+-- these rows are copied to m, in their order
+unfoldable pub copyBranches : Room → ℕ → ℕ → List Edge → Grown → Res Fault Grown
+copyBranches z c m [] g = ok g
+copyBranches z c m (e ∷ es) g = bind (copyRow z c g m e (find (g .edges) m (e .kind) (e .sym))) λ g. copyBranches z c m es g
 
 -- two different branches
 unfoldable pub apart : Grown → ℕ → ℕ → Bool
 apart g n m = not (eqb n m) && branchAt g n && branchAt g m
 
--- the conversion c from typecode u, at node n with the variable edge e for its result
+-- the conversion c from typecode u, at node n with the variable edge e for its result: an edge for u, or the rows that stand now are copied
 unfoldable pub convertTo : Room → ℕ → ℕ → Grown → ℕ → Edge → Option Edge → Res Fault Grown
 convertTo z c u g n e none = converted z c 0 g n u e
-convertTo z c u g n e (some d) = bind (when (apart g (e .to) (d .to)) badCopy g) λ g. copyBranches z c (e .to) (d .to) (g .edges) g
+convertTo z c u g n e (some d) = bind (when (apart g (e .to) (d .to)) badCopy g) λ g. copyBranches z c (d .to) (leaving (e .to) (g .edges)) g
 
 unfoldable pub convertAt : Room → ℕ → ℕ → Grown → ℕ → Option Edge → Res Fault Grown
 convertAt z c u g n none = ok g
@@ -140,5 +138,5 @@ unfoldable pub grow : Room → List Rule → Res Fault Grown
 grow z R = bind (plant z R) λ g. convertAll z 1 R g
 
 unfoldable pub growing : Unit {0}
-unfolding source keyed find withReduce bind when faultNumber kind sym branchAt addEdge addNode placeLast placeInner place placeRule placeRules addConverted offsetOn copyRow copyBranches apart convertTo convertAt convertNodes convert convertAll plant grow
+unfolding source below insertEdge keyed find leaving withReduce bind when faultNumber kind sym branchAt addEdge addNode placeLast placeInner place placeRule placeRules addConverted offsetOn copyRow copyBranches apart convertTo convertAt convertNodes convert convertAll plant grow
 growing = tt

@@ -7,15 +7,17 @@ use super::table;
 ghost use mathlib.Core.Path.{_≡_};
 ghost use mathlib.Core.Bool.{true, not, _&&_};
 ghost use mathlib.Core.List.{List};
+ghost use mathlib.Core.Logic.{_≢_};
+ghost use mathlib.Core.Option.{none};
 ghost use Prim.Native.Nat.{ℕ, _≤_, _<_};
 ghost use lib.Dec.{eqb};
 ghost use lib.ListN.{length, getD};
 ghost use Rattle.words.specs.Limits.{mostNodes, mostReduces};
 ghost use Rattle.rules.specs.Rules.{theRules};
 ghost use Rattle.rules.specs.Code.{aRule, someRules};
-ghost use Rattle.rows.specs.Rows.{find};
+ghost use Rattle.rows.specs.Rows.{find, leaving};
 ghost use Rattle.rows.specs.Code.{edgeIs, Adds};
-ghost use Rattle.tree.specs.Grow.{addConverted, offsetOn, copyRow, copyBranches, convertTo, convertAt, convertNodes, convertAll};
+ghost use Rattle.tree.specs.Grow.{addConverted, offsetOn, copyBranches, convertTo, convertAt, convertNodes, convertAll};
 ghost use Rattle.tree.specs.Code.{roomOf, grownOf, edgesIn, reducesIn, copyOf, convertFirst, Rowed, Rows};
 
 // A conversion: its rule, and the typecodes that it goes from and to.
@@ -25,7 +27,7 @@ pub struct Change {
     pub result: words::SymbolNo,
 }
 
-// The edge with one reduce more, from node `from` and with this symbol: 14, then 13.
+// The edge with one reduce more, from node `from` and with this symbol, a new key: 14, then 13.
 fn add_converted(
     room: Room,
     c: Counts,
@@ -34,7 +36,8 @@ fn add_converted(
     added: rows::Added,
     edges: &mut [u32],
 ) -> Grew
-    requires { ⌜ Rowed room c (now edges) × (added .edge .to .0 < c .nodes) × (added .edge .count ≤ mostReduces) ⌝ }
+    requires { ⌜ Rowed room c (now edges) × (added .edge .to .0 < c .nodes) × (added .edge .count ≤ mostReduces)
+        × (find (edgesIn (c .edges) (now edges)) (from .0) (added .edge .kind) (symbol .0) ≡ none) ⌝ }
     ensures { λ r. ⌜ ((ns : List ℕ) → Rows room c
         (addConverted (roomOf room) (grownOf c ns (now (edges .entry))) (from .0) (symbol .0) (edgeIs (added .edge)) (reducesIn added))
         r ns (now (edges .exit))) ⌝ }
@@ -60,23 +63,19 @@ fn with_conversion(e: rows::Edge, rule: words::RuleNo) -> rows::Added
     rows::with_offset_reduce(e, first)
 }
 
-// An edge of node `n` is copied to node `m`, unless that has the key.
+// An edge is copied to node `m`, unless that has the key.
 fn copy_row(
     room: Room,
     c: Counts,
     rule: words::RuleNo,
-    n: words::NodeNo,
     m: words::NodeNo,
     e: rows::Edge,
     edges: &mut [u32],
 ) -> Grew
     requires { ⌜ Rowed room c (now edges) × (e .to .0 < c .nodes) × (e .count ≤ mostReduces) ⌝ }
-    ensures { λ r. ⌜ ((ns : List ℕ) → Rows room c (copyOf (roomOf room) (rule .0) (n .0) (m .0) (edgeIs e) (grownOf c ns (now (edges .entry))))
+    ensures { λ r. ⌜ ((ns : List ℕ) → Rows room c (copyOf (roomOf room) (rule .0) (m .0) (edgeIs e) (grownOf c ns (now (edges .entry))))
         r ns (now (edges .exit))) ⌝ }
 {
-    if e.from.0 != n.0 {
-        return Grew::On(c);
-    }
     let symbol = e.symbol;
     let rows::Found::Nothing = table::look(c, m, e.kind, symbol, edges) else {
         return Grew::On(c);
@@ -85,7 +84,7 @@ fn copy_row(
     add_converted(room, c, m, symbol, added, edges)
 }
 
-// The edges of node `n` among the rows that stand now are copied to node `m`.
+// The edges that node `n` has now are copied to node `m`, in key order. They stay together, while others may come to stand before them.
 fn copy_branches(
     room: Room,
     start: Counts,
@@ -94,17 +93,18 @@ fn copy_branches(
     m: words::NodeNo,
     edges: &mut [u32],
 ) -> Grew
-    requires { ⌜ Rowed room start (now edges) ⌝ }
+    requires { ⌜ Rowed room start (now edges) × (n .0 ≢ m .0) × (n .0 < mostNodes) ⌝ }
     ensures { λ r. ⌜ ((ns : List ℕ) → Rows room start
-        (copyBranches (roomOf room) (rule .0) (n .0) (m .0) (edgesIn (start .edges) (now (edges .entry))) (grownOf start ns (now (edges .entry))))
+        (copyBranches (roomOf room) (rule .0) (m .0) (leaving (n .0) (edgesIn (start .edges) (now (edges .entry)))) (grownOf start ns (now (edges .entry))))
         r ns (now (edges .exit))) ⌝ }
 {
-    let end = start.edges;
+    let end = table::rows_of(start, n, edges);
     let mut c = start;
-    let mut row = 0;
-    while row < end {
+    let mut k = 0;
+    while k < end {
+        let row = table::first_row(c, n, edges) + k;
         let e = rows::read_row(edges, row);
-        let grew = copy_row(room, c, rule, n, m, e, edges);
+        let grew = copy_row(room, c, rule, m, e, edges);
         match grew {
             Grew::On(next) => {
                 c = next;
@@ -113,7 +113,7 @@ fn copy_branches(
                 return Grew::Refused(f);
             }
         }
-        row += 1;
+        k += 1;
     }
     Grew::On(c)
 }
@@ -139,7 +139,8 @@ fn convert_to(
     nodes: &[u32],
     edges: &mut [u32],
 ) -> Grew
-    requires { ⌜ Rowed room c (now edges) × (c .nodes ≤ length (now nodes)) × (e .to .0 < c .nodes) × (e .count ≤ mostReduces) ⌝ }
+    requires { ⌜ Rowed room c (now edges) × (c .nodes ≤ length (now nodes)) × (e .to .0 < c .nodes) × (e .count ≤ mostReduces)
+        × (e .kind ≡ 1) × (c .nodes ≤ mostNodes) ⌝ }
     ensures { λ r. ⌜ Rows room c
         (convertTo (roomOf room) (change .rule .0) (change .source .0) (grownOf c (now (nodes .entry)) (now (edges .entry))) (n .0) (edgeIs e)
         (find (edgesIn (c .edges) (now (edges .entry))) (n .0) 1 (change .source .0)))
@@ -169,7 +170,7 @@ fn convert_at(
     nodes: &[u32],
     edges: &mut [u32],
 ) -> Grew
-    requires { ⌜ Rowed room c (now edges) × (c .nodes ≤ length (now nodes)) ⌝ }
+    requires { ⌜ Rowed room c (now edges) × (c .nodes ≤ length (now nodes)) × (c .nodes ≤ mostNodes) ⌝ }
     ensures { λ r. ⌜ Rows room c
         (convertAt (roomOf room) (change .rule .0) (change .source .0) (grownOf c (now (nodes .entry)) (now (edges .entry))) (n .0)
         (find (edgesIn (c .edges) (now (edges .entry))) (n .0) 1 (change .result .0)))

@@ -8,7 +8,7 @@ ghost use mathlib.Core.Bool.{true};
 ghost use Rattle.rules.specs.Rules.{theRules};
 ghost use Rattle.rules.specs.Code.{someRules};
 ghost use Rattle.tree.specs.Grow.{plant};
-ghost use Rattle.tree.specs.Code.{roomOf, Within, Meets};
+ghost use Rattle.tree.specs.Code.{roomOf, Within, Meets, Ready, Finishes};
 
 // How many nodes and edges there is room for.
 pub struct Room {
@@ -51,4 +51,19 @@ pub fn plant(rules: &[u32], room: Room, nodes: &mut [u32], edges: &mut [u32]) ->
     nodes[0] = 0;
     let root = Counts { nodes: 1, edges: 0 };
     place::place_rules(room, root, rules, nodes, edges)
+}
+
+// The end of a build: the last words of the rows, which are free while it grows, are cleared.
+pub fn finish(grew: Grew, edges: &mut [u32]) -> Grew
+    requires { ⌜ Ready grew (now edges) ⌝ }
+    ensures { λ r. ⌜ (r ≡ grew) × Finishes grew (now (edges .entry)) (now (edges .exit)) ⌝ }
+{
+    match grew {
+        Grew::On(c) => {
+            let count = c.edges;
+            rows::clear_last(edges, count);
+            Grew::On(c)
+        }
+        Grew::Refused(f) => Grew::Refused(f),
+    }
 }

@@ -7,12 +7,14 @@ use super::table;
 ghost use mathlib.Core.Path.{_≡_};
 ghost use mathlib.Core.Bool.{true};
 ghost use mathlib.Core.List.{[], _∷_};
+ghost use mathlib.Core.Option.{none};
 ghost use Prim.Native.Nat.{_<_};
 ghost use lib.ListN.{length};
 ghost use Rattle.rules.specs.Rules.{itemsOf, theRules};
 ghost use Rattle.rules.specs.Code.{aRule, someRules, itemIs};
+ghost use Rattle.rows.specs.Rows.{find};
 ghost use Rattle.tree.specs.Grow.{kind, sym, place, placeRules};
-ghost use Rattle.tree.specs.Code.{roomOf, grownOf, Stands, branchOf, innerOf, placeFirst, Meets, Places};
+ghost use Rattle.tree.specs.Code.{roomOf, edgesIn, grownOf, Stands, branchOf, innerOf, placeFirst, Meets, Places};
 
 // Where the next item of a body is placed, or why it can't be.
 pub enum Placed {
@@ -40,7 +42,7 @@ fn symbol_of(item: rules::Item) -> words::SymbolNo
     }
 }
 
-// An edge with this key to a new branch.
+// An edge with this key, which is new, to a new branch.
 fn new_branch(
     room: Room,
     c: Counts,
@@ -50,7 +52,7 @@ fn new_branch(
     nodes: &mut [u32],
     edges: &mut [u32],
 ) -> Placed
-    requires { ⌜ Stands room c (now nodes) (now edges) ⌝ }
+    requires { ⌜ Stands room c (now nodes) (now edges) × (find (edgesIn (c .edges) (now edges)) (n .0) kind (symbol .0) ≡ none) ⌝ }
     ensures { λ r. ⌜ Places room (branchOf (roomOf room) (grownOf c (now (nodes .entry)) (now (edges .entry))) (n .0) kind (symbol .0))
         r (now (nodes .exit)) (now (edges .exit)) ⌝ }
 {

@@ -17,6 +17,7 @@ use Rattle.rules.specs.Rules.{theRules, ruleAt, rulesGood}
 use Rattle.words.specs.laws.Tests.{by-test, lesser-le}
 use Rattle.rules.specs.laws.Words.{rules-good}
 use Rattle.rows.specs.Rows.{tablesGood}
+use Rattle.rows.specs.laws.Fair.{tables-fair}
 use Rattle.words.specs.declared.RuleNo.{RuleNo}
 use Rattle.words.specs.declared.SymbolNo.{SymbolNo}
 use Rattle.formula.specs.Code as formula
@@ -183,7 +184,7 @@ module _ (rs ns es ts : List ℕ) (h : Held) (fs₀ : List ℕ) where
 
 pub tables-fit : (p l : ℕ) (rs ns es : List ℕ) → rulesGood p l rs ≡ true → tablesGood (length (theRules rs)) ns es ≡ true → Fit rs es
 unfolding tablesOf
-tables-fit p l rs ns es r g = record { rules = rules-good p l rs r; slim = tables-slim (theRules rs) ns es g }
+tables-fit p l rs ns es r g = record { rules = rules-good p l rs r; order = tables-fair (length (theRules rs)) ns es g .order; slim = tables-slim (theRules rs) ns es g }
 
 pub room-lent : (l w room : ℕ) → room ≡ lesser (lesser l w) formula.mostRoom → Lent room l w
 room-lent l w room e =

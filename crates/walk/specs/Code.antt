@@ -11,7 +11,7 @@ use Rattle.words.specs.Outcome.{Res, ok, no, bind, pick}
 use Rattle.words.specs.Numbers as reasons
 use Rattle.rules.specs.Rules.{Rule, theRules, ruleAt, source}
 use Rattle.rules.specs.Code.{someRules}
-use Rattle.rows.specs.Rows.{Edge, edgesOf, find}
+use Rattle.rows.specs.Rows.{Edge, edgesOf, rising, find}
 use Rattle.formula.specs.Reducing.{reduce}
 use Rattle.formula.specs.declared.Trees as held
 use Rattle.formula.specs.Code as formula
@@ -86,9 +86,10 @@ pub record Gives (room : ℕ) (r : declared.Turn) (ts fs ls ws : List ℕ) (o : 
 
 -- ---- what a walk asks of its tables
 
--- good rules, and an edge that is found has at most five reduces
+-- good rules, rows that rise, and an edge that is found has at most five reduces
 pub record Fit (rs es : List ℕ) : Type 0 where
   pub rules : someRules rs ≡ true
+  pub order : rising (edgesOf es) ≡ true
   pub slim : (n k t : ℕ) (e : Edge) → find (edgesOf es) n k t ≡ some e → length (e .reduces) ≤ mostReduces
 
 -- ---- what a pass goes by

@@ -1,3 +1,4 @@
+pub mod Alike
 pub mod Mono
 pub mod Reduced
 pub mod View

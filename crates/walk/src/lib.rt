@@ -8,7 +8,7 @@ ghost use Rattle.words.specs.Numbers.{number, place};
 ghost use Rattle.words.specs.Outcome.{lesser};
 ghost use Rattle.rules.specs.Rules.{theRules, ruleOf, rulesGood};
 ghost use Rattle.rules.specs.Code.{aRule, someRules};
-ghost use Rattle.rows.specs.Rows.{edgeOf, tablesGood};
+ghost use Rattle.rows.specs.Rows.{edgeOf, edgesOf, rising, tablesGood};
 ghost use Rattle.rows.specs.Code.{rowAt};
 ghost use Rattle.formula.specs.Code.{Inside};
 ghost use Rattle.walk.specs.Walk.{pass, run, start, wantedOf, walk};
@@ -141,6 +141,7 @@ fn wish_of(goal: words::SymbolNo, frames: &[u32], n: usize) -> Wish
 }
 
 fn wanted(edges: &[u32], wish: Wish, t: words::SymbolNo) -> bool
+    requires { ⌜ rising (edgesOf (now edges)) ≡ true ⌝ }
     ensures { λ r. ⌜ Wants (now (edges .entry)) wish (t .0) r ⌝ }
 {
     match wish {
@@ -154,7 +155,7 @@ fn wanted(edges: &[u32], wish: Wish, t: words::SymbolNo) -> bool
 
 // Whether the rule that stands first is a conversion from `t` to a wanted typecode.
 fn converts(s: &[u32], edges: &[u32], wish: Wish, t: words::SymbolNo) -> bool
-    requires { ⌜ aRule (now s) ≡ true ⌝ }
+    requires { ⌜ (aRule (now s) ≡ true) × (rising (edgesOf (now edges)) ≡ true) ⌝ }
     ensures { λ r. ⌜ Converts (now (edges .entry)) wish (ruleOf (now (s .entry))) (t .0) r ⌝ }
 {
     let rules::Conversion::From(u) = rules::conversion_of(s) else {
@@ -169,7 +170,7 @@ fn converts(s: &[u32], edges: &[u32], wish: Wish, t: words::SymbolNo) -> bool
 
 // The first conversion in rule order from `t` to a wanted typecode.
 fn conversion(rules: &[u32], edges: &[u32], wish: Wish, t: words::SymbolNo) -> Chosen
-    requires { ⌜ someRules (now rules) ≡ true ⌝ }
+    requires { ⌜ (someRules (now rules) ≡ true) × (rising (edgesOf (now edges)) ≡ true) ⌝ }
     ensures { λ r. ⌜ Chooses (now (edges .entry)) wish (theRules (now (rules .entry))) (t .0) r ⌝ }
 {
     let mut i = 0;
@@ -301,7 +302,7 @@ fn regrown(p: Stand, trees: formula::Trees) -> Stand
 
 // No constant edge: the node becomes a frame and the walk goes to node 0. Not so node 0 itself, or a node with no edges.
 fn open_frame(edges: &[u32], s: At, frames: &mut [u32]) -> Turn
-    requires { ⌜ s .token ≤ mostTokens ⌝ }
+    requires { ⌜ (s .token ≤ mostTokens) × (rising (edgesOf (now edges)) ≡ true) ⌝ }
     ensures { λ r. ⌜ Opens (now (edges .entry)) s (now (frames .entry)) r (now (frames .exit)) ⌝ }
 {
     let place = s.token as u32;

@@ -2,7 +2,7 @@
 
 use crate::grow::Tree;
 use crate::numbers::{NodeNo, Refusal, ROOT, TAKEN_LIMIT};
-use crate::rows::{behind, joined, Edge, Reduce, Row};
+use crate::rows::{behind, joined, Edge, Reduce};
 use crate::rules::Item;
 
 /// Words of a frame that is lent for a clone.
@@ -50,10 +50,13 @@ pub struct Taken {
 struct Cloning {
     from: NodeNo,
     to: NodeNo,
-    rows: std::vec::IntoIter<usize>,
+    rows: std::vec::IntoIter<(Item, Edge)>,
     /// What has to be reduced once the copied body is whole.
     stored: Vec<Reduce>,
 }
+
+/// From where, to where, and what is stored.
+type Begun = (NodeNo, NodeNo, Vec<Reduce>);
 
 /// The target's reduces beside those of the source: the source's that the target lacks. 16 if the target has others. Offsets are not
 /// compared.
@@ -127,8 +130,7 @@ impl Tree {
 
     /// Copies the rows of a node to another, with a list behind the reduces of each.
     fn copy_with(&mut self, from: NodeNo, to: NodeNo, list: &[Reduce]) -> Result<(), Refusal> {
-        for row in self.constants_first(from) {
-            let Row { item, edge, .. } = self.rows[row].clone();
+        for (item, edge) in self.leaving(from) {
             if self.edge(to, item).is_none() {
                 let reduces = joined(&[&edge.reduces, &behind(item, list)?])?;
                 self.add_row(to, item, Edge { to: edge.to, reduces })?;
@@ -142,12 +144,12 @@ impl Tree {
         let mut clones = Vec::new();
         self.begin(&mut clones, from, to, stored)?;
         while let Some(clone) = clones.last_mut() {
-            let Some(row) = clone.rows.next() else {
+            let Some((item, edge)) = clone.rows.next() else {
                 clones.pop();
                 continue;
             };
             self.take_up()?;
-            if let Some((from, to, stored)) = self.clone_row(row, clone, shadowed)? {
+            if let Some((from, to, stored)) = self.clone_row(item, edge, clone, shadowed)? {
                 self.begin(&mut clones, from, to, stored)?;
             }
         }
@@ -159,7 +161,7 @@ impl Tree {
         if clones.len() >= self.room.frames {
             return Err(Refusal::FramesFull);
         }
-        let rows = self.constants_first(from).into_iter();
+        let rows = self.leaving(from).into_iter();
         clones.push(Cloning { from, to, rows, stored });
         if let Some(taken) = self.taken.last_mut() {
             taken.deepest = taken.deepest.max(clones.len());
@@ -176,8 +178,7 @@ impl Tree {
     }
 
     /// One row of a clone; the clone that it leads to, if it does.
-    fn clone_row(&mut self, row: usize, clone: &Cloning, shadowed: NodeNo) -> Result<Option<(NodeNo, NodeNo, Vec<Reduce>)>, Refusal> {
-        let Row { item, edge, .. } = self.rows[row].clone();
+    fn clone_row(&mut self, item: Item, edge: Edge, clone: &Cloning, shadowed: NodeNo) -> Result<Option<Begun>, Refusal> {
         if edge.to == clone.to {
             return Ok(None);
         }

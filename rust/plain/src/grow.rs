@@ -1,10 +1,10 @@
 //! Growing the tree: rules first, then commands, conversions among them or last.
 
-use std::collections::HashMap;
+use std::collections::BTreeMap;
 
 use crate::garden::{Command, Taken};
 use crate::numbers::{NodeNo, Refusal, RuleNo, ROOT};
-use crate::rows::{behind, joined, Edge, Reduce, Row};
+use crate::rows::{behind, joined, Edge, Key, Reduce};
 use crate::rules::{Conversion, Item, Rules};
 
 /// How many rows may be made, and how many clones may have begun and not be done.
@@ -15,16 +15,13 @@ pub struct Room {
     pub frames: usize,
 }
 
-/// A tree in the making: its rows in the order in which they were made.
+/// A tree in the making.
 #[derive(Clone, Debug)]
 pub struct Tree {
     /// A leaf's rule, or nothing for a branch.
     pub nodes: Vec<Option<RuleNo>>,
-    pub rows: Vec<Row>,
-    /// The row with a key; growing never makes a second.
-    index: HashMap<(NodeNo, Item), usize>,
-    /// The rows that leave each node, in row order.
-    leaving: Vec<Vec<usize>>,
+    /// The edges by their keys, in the order of the keys.
+    pub rows: BTreeMap<Key, Edge>,
     /// For each garden path so far, what it took up.
     pub taken: Vec<Taken>,
     pub(crate) room: Room,
@@ -41,9 +38,7 @@ impl Tree {
     pub fn empty(room: Room) -> Tree {
         Tree {
             nodes: Vec::new(),
-            rows: Vec::new(),
-            index: HashMap::new(),
-            leaving: Vec::new(),
+            rows: BTreeMap::new(),
             taken: Vec::new(),
             room,
         }
@@ -84,16 +79,15 @@ impl Tree {
         rules.conversions().iter().try_for_each(|&conversion| self.convert(conversion))
     }
 
-    /// The rows that leave a node now, constants before variables, each in row order.
-    pub(crate) fn constants_first(&self, node: NodeNo) -> Vec<usize> {
-        let rows = &self.leaving[node.index()];
-        let variable = |row: &usize| matches!(self.rows[*row].item, Item::Slot(_));
-        let (variables, constants): (Vec<usize>, Vec<usize>) = rows.iter().copied().partition(variable);
-        [constants, variables].concat()
+    /// What leaves a node now, in the order of the keys. An edge that stands is never changed, so what is made later doesn't show in it.
+    pub(crate) fn leaving(&self, node: NodeNo) -> Vec<(Item, Edge)> {
+        let (first, last) = Item::ends();
+        let rows = self.rows.range((node, first)..=(node, last));
+        rows.map(|(&(_, item), edge)| (item, edge.clone())).collect()
     }
 
     pub(crate) fn edge(&self, from: NodeNo, item: Item) -> Option<&Edge> {
-        self.index.get(&(from, item)).map(|&row| &self.rows[row].edge)
+        self.rows.get(&(from, item))
     }
 
     pub(crate) fn is_leaf(&self, node: NodeNo) -> bool {
@@ -106,7 +100,6 @@ impl Tree {
         }
         let node = NodeNo(self.nodes.len() as u32);
         self.nodes.push(leaf);
-        self.leaving.push(Vec::new());
         Ok(node)
     }
 
@@ -114,9 +107,7 @@ impl Tree {
         if self.rows.len() >= self.room.edges {
             return Err(Refusal::EdgesFull);
         }
-        self.index.insert((from, item), self.rows.len());
-        self.leaving[from.index()].push(self.rows.len());
-        self.rows.push(Row { from, item, edge });
+        self.rows.insert((from, item), edge);
         Ok(())
     }
 
@@ -178,20 +169,18 @@ impl Tree {
 
     fn copy_branches(&mut self, from: NodeNo, onto: NodeNo, rule: RuleNo) -> Result<(), Refusal> {
         self.may_copy(from, onto)?;
-        for row in self.leaving[from.index()].clone() {
-            self.copy_row(row, onto, rule)?;
+        for (item, edge) in self.leaving(from) {
+            self.copy_row(item, &edge, onto, rule)?;
         }
         Ok(())
     }
 
-    fn copy_row(&mut self, row: usize, onto: NodeNo, rule: RuleNo) -> Result<(), Refusal> {
-        let Row { item, ref edge, .. } = self.rows[row];
+    fn copy_row(&mut self, item: Item, edge: &Edge, onto: NodeNo, rule: RuleNo) -> Result<(), Refusal> {
         if self.edge(onto, item).is_some() {
             return Ok(());
         }
         let first = behind(item, &[Reduce::whole(rule)])?;
         let reduces = joined(&[&first, &edge.reduces])?;
-        let to = edge.to;
-        self.add_row(onto, item, Edge { to, reduces })
+        self.add_row(onto, item, Edge { to: edge.to, reduces })
     }
 }

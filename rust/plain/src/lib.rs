@@ -22,7 +22,7 @@ pub use grammar::Grammar;
 pub use grow::{grow, Room, Tree};
 pub use numbers::{NodeNo, Refusal, RuleNo, Symbol, TOKEN_LIMIT};
 pub use package::{counted, Contents};
-pub use rows::{Edge, Node, Reduce, Row, Tables};
+pub use rows::{Edge, Key, Node, Reduce, Row, Tables};
 pub use rules::{Item, Rule, Rules, Typecodes};
 pub use walk::{Rooms, Walk, Walked};
 pub use words::{body, build, package_read, package_write, parse, verify, Answer, Built, Package, Stretch, Written};

@@ -14,10 +14,13 @@ pub const TAKEN_LIMIT: usize = 16_384;
 pub const TOKEN_LIMIT: usize = 32_769;
 
 /// A constant or a typecode, within the range that tables allow.
-#[derive(Clone, Copy, Debug, PartialEq, Eq, Hash)]
+#[derive(Clone, Copy, Debug, PartialEq, Eq, PartialOrd, Ord, Hash)]
 pub struct Symbol(u32);
 
 impl Symbol {
+    pub(crate) const LEAST: Symbol = Symbol(1);
+    pub(crate) const GREATEST: Symbol = Symbol(SYMBOL_LIMIT);
+
     pub fn read(word: u32) -> Option<Symbol> {
         (1..=SYMBOL_LIMIT).contains(&word).then_some(Symbol(word))
     }
@@ -42,7 +45,7 @@ impl RuleNo {
 }
 
 /// A node that exists, counted from 0.
-#[derive(Clone, Copy, Debug, PartialEq, Eq, Hash)]
+#[derive(Clone, Copy, Debug, PartialEq, Eq, PartialOrd, Ord, Hash)]
 pub struct NodeNo(pub(crate) u32);
 
 /// Node 0.

@@ -59,6 +59,9 @@ pub struct Edge {
     pub reduces: Vec<Reduce>,
 }
 
+/// What a row is found by. Rows stand in the order of their keys: from, then kind, then symbol, as numbers.
+pub type Key = (NodeNo, Item);
+
 /// An edge with its key.
 #[derive(Clone, Debug, PartialEq, Eq)]
 pub struct Row {
@@ -90,15 +93,20 @@ impl Row {
         })
     }
 
-    pub fn words(&self) -> [u32; ROW] {
-        let mut words = [0; ROW];
-        let [kind, symbol] = self.item.words();
-        words[..PAIRS].copy_from_slice(&[self.from.word(), kind, symbol, self.edge.to.word(), self.edge.reduces.len() as u32]);
-        for (pair, reduce) in words[PAIRS..LAST].chunks_exact_mut(2).zip(&self.edge.reduces) {
-            pair.copy_from_slice(&[reduce.rule.word(), reduce.offset]);
-        }
-        words
+    fn key(&self) -> Key {
+        (self.from, self.item)
     }
+}
+
+/// The row of an edge.
+pub fn row_words((from, item): Key, edge: &Edge) -> [u32; ROW] {
+    let mut words = [0; ROW];
+    let [kind, symbol] = item.words();
+    words[..PAIRS].copy_from_slice(&[from.word(), kind, symbol, edge.to.word(), edge.reduces.len() as u32]);
+    for (pair, reduce) in words[PAIRS..LAST].chunks_exact_mut(2).zip(&edge.reduces) {
+        pair.copy_from_slice(&[reduce.rule.word(), reduce.offset]);
+    }
+    words
 }
 
 #[derive(Clone, Debug, PartialEq, Eq)]
@@ -126,20 +134,25 @@ impl Tables {
         if !matches!(tables.nodes.first(), Some(Node::Branch(_))) {
             return None;
         }
+        let mut before = None;
         for words in rows {
-            tables.add(Row::read(words.try_into().ok()?, rules, nodes.len())?)?;
+            let row = Row::read(words.try_into().ok()?, rules, nodes.len())?;
+            let key = row.key();
+            if before.replace(key).is_some_and(|before| before >= key) {
+                return None;
+            }
+            tables.add(row)?;
         }
         Some(tables)
     }
 
-    /// Of two rows with one key the first stays, since a look-up takes it.
     fn add(&mut self, row: Row) -> Option<()> {
         let to_leaf = matches!(self.nodes[row.edge.to.index()], Node::Leaf(_));
         if row.edge.to == ROOT || (row.from == ROOT && matches!(row.item, Item::Slot(_)) && to_leaf) {
             return None;
         }
         match &mut self.nodes[row.from.index()] {
-            Node::Branch(edges) => edges.entry(row.item).or_insert(row.edge),
+            Node::Branch(edges) => edges.insert(row.item, row.edge),
             Node::Leaf(_) => return None,
         };
         Some(())

@@ -29,8 +29,9 @@ impl Typecodes {
     }
 }
 
-/// One item of a body, and the key of an edge at its node. A slot's variable is looked at when rules are read, and matters nowhere else.
-#[derive(Clone, Copy, Debug, PartialEq, Eq, Hash)]
+/// One item of a body, and the key of an edge at its node; constants are less than slots. A slot's variable is looked at when rules are read,
+/// and matters nowhere else.
+#[derive(Clone, Copy, Debug, PartialEq, Eq, PartialOrd, Ord, Hash)]
 pub enum Item {
     Constant(Symbol),
     Slot(Symbol),
@@ -44,6 +45,11 @@ impl Item {
             1 => Some(Item::Slot(symbol)),
             _ => None,
         }
+    }
+
+    /// The least one and the greatest.
+    pub(crate) fn ends() -> (Item, Item) {
+        (Item::Constant(Symbol::LEAST), Item::Slot(Symbol::GREATEST))
     }
 
     pub fn words(self) -> [u32; 2] {

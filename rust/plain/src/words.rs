@@ -6,7 +6,7 @@ use crate::grammar::Grammar;
 use crate::grow::{grow, Room, Tree};
 use crate::numbers::{Refusal, RuleNo, EDGE_LIMIT, NODE_LIMIT};
 use crate::package::{packed, Contents};
-use crate::rows::ROW;
+use crate::rows::{row_words, ROW};
 use crate::rules::Rules;
 use crate::walk::{Rooms, Walked};
 
@@ -115,8 +115,8 @@ fn write(tree: &Tree, nodes: &mut [u32], edges: &mut [u32]) -> Built {
     for (word, leaf) in nodes.iter_mut().zip(&tree.nodes) {
         *word = leaf.map_or(0, RuleNo::word);
     }
-    for (words, row) in edges.chunks_exact_mut(ROW).zip(&tree.rows) {
-        words.copy_from_slice(&row.words());
+    for (words, (&key, edge)) in edges.chunks_exact_mut(ROW).zip(&tree.rows) {
+        words.copy_from_slice(&row_words(key, edge));
     }
     Built {
         number: 0,

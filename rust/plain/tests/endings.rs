@@ -42,7 +42,7 @@ fn list_room() {
 fn the_conversion_comes_before_the_edge_s_reduces() {
     // A reduce on the frame's edge lacks its trees; the conversion before it lacks room or nothing.
     let rules = rules("20 c30; 21 s20; 2 c31 s21; 21 s21 s21");
-    let edges = [row(&[0, 0, 31, 1]), row(&[0, 0, 30, 2]), row(&[1, 1, 21, 3, 1, 4, 0])].concat();
+    let edges = [row(&[0, 0, 30, 2]), row(&[0, 0, 31, 1]), row(&[1, 1, 21, 3, 1, 4, 0])].concat();
     let desk = Desk::of(rules, vec![0, 0, 1, 3], edges);
     assert_eq!(desk.refusal(&[1, 31, 30]), (4, 0, 4));
     assert_eq!(Desk { list: 0, ..desk.clone() }.refusal(&[1, 31, 30]), (7, 0, 4));

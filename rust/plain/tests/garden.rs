@@ -165,7 +165,9 @@ fn conversions_that_nobody_asked_for_come_last() {
     let text = "2 c21; 2 s3 c11; 2 c10 s3 c12; 2 c10 s2 c13; 3 s4; 4 c22";
     let desk = Desk::grown_with(text, &[1, 2, 2, 0, 10, 1, 3, 0, 10, 1, 2]);
     assert_eq!((desk.nodes.len(), desk.rows().len()), (10, 12));
-    assert!(edges_text(&desk).ends_with("; 5 c11 7 2@0; 0 s4 2 5@0; 4 s4 5 5@0"));
+    let rows = desk.rows();
+    let reduced: Vec<String> = rows.iter().filter(|row| row[4] != 0).map(edge_text).collect();
+    assert_eq!(reduced, ["0 s4 2 5@0", "4 s4 5 5@0", "5 c11 7 2@0"]);
     assert_eq!(desk.number(&[1, 22, 11]), 0);
 }
 
@@ -248,13 +250,6 @@ fn a_copy_of_a_node_to_itself() {
     assert_eq!(number(text, &[path, path].concat()), 16);
     // All rows skipped: nothing is copied.
     assert_eq!(number("2 c10 s2; 2 c10 c10 c10", &[1, 3, 2, 0, 10, 0, 10, 0, 10, 0, 10, 1, 2]), 0);
-}
-
-#[test]
-fn rows_are_copied_constants_first() {
-    let text = "2 c10 s2 s2; 2 c10 s2 c11; 2 c12; 2 c10 c12 c13";
-    let desk = Desk::grown_with(text, &[1, 2, 2, 0, 10, 0, 12, 0, 10, 1, 2]);
-    assert!(edges_text(&desk).ends_with("; 6 c11 4 3@0; 6 s2 3 3@1"));
 }
 
 #[test]

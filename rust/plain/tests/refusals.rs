@@ -195,17 +195,30 @@ fn edge_words() {
 
 #[test]
 fn edge_rows() {
-    let edge = row(&[0, 0, 7, 1]);
-    assert_eq!(table_answer(&[0, 1], &edge[..15]), 8);
-    assert_eq!(table_answer(&[0, 1], &edge.repeat(16_384)), PASSED);
-    assert_eq!(table_answer(&[0, 1], &edge.repeat(16_385)), 8);
+    let edges: Vec<u32> = (1..=16_385).flat_map(|symbol| row(&[0, 0, symbol, 1])).collect();
+    assert_eq!(table_answer(&[0, 1], &edges[..15]), 8);
+    assert_eq!(table_answer(&[0, 1], &edges[..16 * 16_384]), PASSED);
+    assert_eq!(table_answer(&[0, 1], &edges), 8);
 }
 
 #[test]
-fn first_of_two_rows_counts() {
-    let edges = [row(&[0, 0, 10, 1]), row(&[0, 0, 10, 2])].concat();
-    let desk = Desk::of(rules(S), vec![0, 1, 2], edges);
-    assert_eq!(desk.parse(&[1, 10]).1, [1]);
+fn rows_rise_by_from_then_kind_then_symbol() {
+    let answer = |keys: &[[u32; 3]]| {
+        let rows = keys.iter().flat_map(|&[from, kind, symbol]| row(&[from, kind, symbol, 11]));
+        table_answer(&[0; 12], &rows.collect::<Vec<u32>>())
+    };
+    let rising = [[0, 0, 9], [0, 0, 10], [0, 0, 65_535], [0, 1, 2], [2, 0, 7], [10, 0, 1]];
+    assert_eq!(answer(&rising), PASSED);
+    for at in 1..rising.len() {
+        let mut swapped = rising;
+        swapped.swap(at - 1, at);
+        assert_eq!(answer(&swapped), 8, "{swapped:?}");
+        let mut twice = rising.to_vec();
+        twice.insert(at, rising[at]);
+        assert_eq!(answer(&twice), 8, "{twice:?}");
+    }
+    // not only at its ends, and not only neighbours that are equal
+    assert_eq!(answer(&[[0, 0, 10], [0, 0, 11], [0, 0, 10], [0, 0, 12]]), 8);
 }
 
 #[test]
@@ -360,4 +373,14 @@ fn list_much_longer_than_its_tokens() {
     let list = [vec![1], [2, 3].repeat(50_000)].concat();
     assert_eq!(verify(&words, &[1, 10], &list, list.len()), 0);
     assert_eq!(verify(&words, &[3, 10], &list, list.len()), 4);
+}
+
+/// The rows of a node are copied in the order of their keys.
+#[test]
+fn the_lower_key_decides_between_14_and_13() {
+    let number = |text: &str, rows: usize| build_in(&rules(text), 100, 16 * rows).built.number;
+    let falling = "2 c10 s3 s45; 2 c10 s4 c11; 45 s44; 44 s43; 43 s42; 42 s41; 41 s40; 3 s4";
+    assert_eq!([8, 9, 10, 11, 12].map(|rows| number(falling, rows)), [13, 13, 14, 14, 14]);
+    let rising = "2 c10 s3 s20; 2 c10 s4 c11; 20 s21; 21 s22; 22 s23; 23 s24; 24 s25; 20 s10; 3 s4";
+    assert_eq!([15, 16, 17, 18].map(|rows| number(rising, rows)), [13, 13, 14, 14]);
 }

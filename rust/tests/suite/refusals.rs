@@ -88,10 +88,10 @@ fn parses() {
     assert_eq!(ask(&good, &[1, 10, 10]), ParseError::Unparseable { place: 1, passes: 2 });
     assert_eq!(ask(&good, &[1, 5, 10]), ParseError::Unfinished { place: 2, passes: 5 });
     assert_eq!(ask(&good, &prefixes(32_768)), ParseError::TooLong);
-    let bare = Grammar::with_tables(set_s(), Tables::from_words([], []));
+    let bare = Grammar::with_tables(set_s(), Tables::from_words([], []).expect("no rows"));
     assert_eq!(ask(&bare, &TEN_PASSES), ParseError::BadTables);
     // bad rules come before bad tables, and those before a statement that is too short
-    let bad = Grammar::with_tables(rules(&[(2, &[])]), Tables::from_words([], []));
+    let bad = Grammar::with_tables(rules(&[(2, &[])]), Tables::from_words([], []).expect("no rows"));
     assert_eq!(ask(&bad, &[]), ParseError::BadRules);
     assert_eq!(ask(&bare, &[]), ParseError::BadTables);
 }
@@ -122,7 +122,7 @@ fn checks() {
     assert_eq!(good.verify(&statement(&[1]), &list), Err(VerifyError::TooShort));
     assert_eq!(good.verify(&statement(&[1, 10]), &list), Err(VerifyError::NotWellTyped));
     assert_eq!(good.verify(&statement(&prefixes(32_768)), &list), Err(VerifyError::TooLong));
-    let bad = Grammar::with_tables(rules(&[(2, &[])]), Tables::from_words([], []));
+    let bad = Grammar::with_tables(rules(&[(2, &[])]), Tables::from_words([], []).expect("no rows"));
     assert_eq!(bad.verify(&statement(&[]), &list), Err(VerifyError::BadRules));
 }
 

@@ -4,7 +4,7 @@ use jiehkavon::limits::{MOST_EDGES, MOST_NODES, ROW_WIDTH};
 use jiehkavon::words::{self, Answer};
 use jiehkavon::{BuildError, Grammar, Label, Room, Rules, Tables};
 
-use crate::sets::{c, chain, grammar, parse, prefixes, rules, s, set_s, set_s10, set_t, symbol, Lent, Random};
+use crate::sets::{c, chain, grammar, parse, prefixes, rules, rules_of, s, set_s, set_s10, set_t, symbol, Lent, Random};
 
 /// The answer, and the list.
 fn with_room(grammar: &Grammar, tokens: &[u32], room: Room) -> (Answer, Vec<u32>) {
@@ -123,7 +123,7 @@ fn build_at_the_limits(rules: &Rules, nodes: &mut [u32], edges: &mut [u32]) -> R
     );
     let (node_count, edge_count) = (built.nodes as usize, built.edges as usize);
     match BuildError::of(built) {
-        None => Ok(Tables::from_words(&nodes[..node_count], &edges[..edge_count * ROW_WIDTH])),
+        None => Ok(Tables::from_words(&nodes[..node_count], &edges[..edge_count * ROW_WIDTH]).expect("no key twice")),
         Some(refusal) => Err(refusal),
     }
 }
@@ -163,4 +163,19 @@ fn a_build_gets_all_that_it_needs() {
         assert_eq!(built, expected, "turn {turn}: {:?}", rules.words());
     }
     assert!(grown > 20, "conversions made edges in {grown} of the sets only");
+}
+
+/// The rows of a node are copied in the order of their keys, so the lowest key decides between a sixth reduce and a full table.
+#[test]
+fn the_lower_key_decides_between_14_and_13() {
+    let number = |text: &str, rows: usize| {
+        let (mut nodes, mut edges) = (vec![7; MOST_NODES], vec![7; rows * ROW_WIDTH]);
+        words::build(1, 2, rules_of(text).words(), &[], &mut nodes, &mut edges, &mut []).number
+    };
+    // rows for s45 down to s40, made in that order, each with a reduce more; s40 is the least and has five
+    let falling = "2 c10 s3 s45; 2 c10 s4 c11; 45 s44; 44 s43; 43 s42; 42 s41; 41 s40; 3 s4";
+    assert_eq!([8, 9, 10, 11, 12].map(|rows| number(falling, rows)), [13, 13, 14, 14, 14]);
+    // rows for s20 to s25, made in that order, of which s25 has five; then one for s10, which is the least and has one
+    let rising = "2 c10 s3 s20; 2 c10 s4 c11; 20 s21; 21 s22; 22 s23; 23 s24; 24 s25; 20 s10; 3 s4";
+    assert_eq!([15, 16, 17, 18].map(|rows| number(rising, rows)), [13, 13, 14, 14]);
 }

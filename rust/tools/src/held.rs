@@ -50,7 +50,7 @@ impl Tally {
         *self.compared.entry(what).or_default() += count as u64;
     }
 
-    fn note(&mut self, verdict: Verdict, pair: String, size: usize, text: impl Fn() -> String) {
+    pub(crate) fn note(&mut self, verdict: Verdict, pair: String, size: usize, text: impl Fn() -> String) {
         let seen = self.pairs.entry((verdict, pair)).or_default();
         seen.count += 1;
         let here = || Example { size, text: text() };
@@ -69,10 +69,10 @@ impl Tally {
 }
 
 /// The tree that is built here, or the refusal.
-struct Grown {
-    number: u32,
+pub(crate) struct Grown {
+    pub(crate) number: u32,
     nodes: Vec<u32>,
-    edges: Vec<u32>,
+    pub(crate) edges: Vec<u32>,
     /// All past the rows is zero, or all is where the build is refused.
     clean: bool,
 }
@@ -109,7 +109,7 @@ fn rooms(set: &Set) -> Vec<Room> {
     }
 }
 
-fn grow(side: &Side, set: &Set, rules: &[u32]) -> Grown {
+pub(crate) fn grow(side: &Side, set: &Set, rules: &[u32]) -> Grown {
     let grown = rooms(set).into_iter().map(|room| grow_in(side, set, rules, room));
     let mut tried: Vec<Grown> = Vec::new();
     for grown in grown {
@@ -122,7 +122,7 @@ fn grow(side: &Side, set: &Set, rules: &[u32]) -> Grown {
     tried.pop().expect("some room")
 }
 
-fn grow_in(side: &Side, set: &Set, rules: &[u32], room: Room) -> Grown {
+pub(crate) fn grow_in(side: &Side, set: &Set, rules: &[u32], room: Room) -> Grown {
     let mut nodes = vec![STALE; room.nodes];
     let mut edges = vec![STALE; room.edges * ROW_WIDTH];
     let mut frames = vec![STALE; room.frames * FRAME_WIDTH];
@@ -140,8 +140,8 @@ fn grow_in(side: &Side, set: &Set, rules: &[u32], room: Room) -> Grown {
     }
 }
 
-/// The tables as the Rust's tree would be told.
-fn tree_of(set: &Set, grown: &Grown) -> Option<Tree> {
+/// The tables as the Rust's tree would be told, whose edges are sorted: rows that don't rise make another tree.
+pub(crate) fn tree_of(set: &Set, grown: &Grown) -> Option<Tree> {
     let node = |&word: &u32| match word.checked_sub(1) {
         None => Some(Node::Branch),
         Some(at) => {
@@ -154,8 +154,7 @@ fn tree_of(set: &Set, grown: &Grown) -> Option<Tree> {
         }
     };
     let nodes = grown.nodes.iter().map(node).collect::<Option<_>>()?;
-    let mut edges: Vec<Edge> = grown.edges.chunks(ROW_WIDTH).map(edge_of).collect::<Option<_>>()?;
-    edges.sort();
+    let edges = grown.edges.chunks(ROW_WIDTH).map(edge_of).collect::<Option<_>>()?;
     Some(Tree { nodes, edges })
 }
 
@@ -284,17 +283,23 @@ fn enough(after: usize) -> (u32, usize, usize) {
 }
 
 /// A set with its tree here, to put statements to.
-struct Desk<'a> {
-    side: &'a Side,
-    set: &'a Set,
-    rules: &'a [u32],
-    grown: &'a Grown,
-    relation: Relation,
+pub(crate) struct Desk<'a> {
+    pub(crate) side: &'a Side,
+    pub(crate) set: &'a Set,
+    pub(crate) rules: &'a [u32],
+    pub(crate) grown: &'a Grown,
+    pub(crate) relation: Relation,
 }
 
 impl Desk<'_> {
     fn walk(&self, tokens: &[u32]) -> Walked {
         self.walk_over(self.rules, tokens)
+    }
+
+    /// Number, place and passes, then the list.
+    pub(crate) fn told(&self, tokens: &[u32]) -> Vec<u32> {
+        let Walked { answer, list, .. } = self.walk(tokens);
+        [vec![answer.number, answer.place, answer.passes], list].concat()
     }
 
     fn walk_over(&self, rules: &[u32], tokens: &[u32]) -> Walked {
@@ -420,27 +425,91 @@ fn judge_parse(ours: &Walked, theirs: &Parse, tokens: &[u32]) -> Verdict {
     }
 }
 
-/// Puts a set to the Rust again, its symbols told in other orders.
-pub type Again<'a> = &'a dyn Fn(&Asked) -> Vec<Answers>;
+/// The Rust, to be asked again where it parts from us.
+pub struct Again<'a> {
+    /// A build with the symbols told in other orders, by which its maps are gone through in others.
+    pub shuffled: &'a dyn Fn(&Asked) -> Vec<Answers>,
+    /// Everything of a set, with its maps in the order of the keys, if that Rust is there.
+    pub in_key_order: &'a dyn Fn(&Asked) -> Option<Answers>,
+}
+
+/// How a build and its tree stand to those of the Rust.
+struct Judged {
+    verdict: Verdict,
+    pair: String,
+    relation: Relation,
+}
+
+impl Judged {
+    fn of(set: &Set, grown: &Grown, theirs: &Answers) -> Judged {
+        let (verdict, pair) = judge_build(set, grown.number, &theirs.build);
+        let both = grown.number == 0 && matches!(theirs.build, Build::Built { .. });
+        if !both {
+            return Judged {
+                verdict,
+                pair,
+                relation: Relation::Other,
+            };
+        }
+        let relation = tree_relation(set, grown, theirs);
+        let (verdict, pair) = judge_tree(set, relation, verdict, pair);
+        Judged { verdict, pair, relation }
+    }
+
+    /// Where the order of the Rust's maps may have made the difference.
+    fn may_be_order(&self, set: &Set) -> bool {
+        !set.commands.is_empty() && (self.verdict == Verdict::Found || self.relation == Relation::Renumbered)
+    }
+}
+
+/// Where the order of the maps shows, the Rust whose maps are in key order takes the place of the unchanged one: with it numbers of nodes have to be
+/// the same too. That it is the order is known by the unchanged one's own answers, which part when symbols are told in other orders.
+fn hold_in_key_order(asked: &Asked, grown: &Grown, theirs: &Answers, judged: &mut Judged, again: &Again) -> Option<Answers> {
+    let renumbered = judged.relation == Relation::Renumbered;
+    if !renumbered && !order_shows(theirs, &(again.shuffled)(asked)) {
+        return None;
+    }
+    let Some(ordered) = (again.in_key_order)(asked) else {
+        if !renumbered {
+            judged.verdict = Verdict::Listed;
+            judged.pair += ": the order of the maps";
+        }
+        return None;
+    };
+    let other = Judged::of(&asked.set, grown, &ordered);
+    let found = other.verdict == Verdict::Found || other.relation == Relation::Renumbered;
+    let verdict = match found {
+        true => Verdict::Found,
+        false if renumbered => other.verdict,
+        false => Verdict::Listed,
+    };
+    *judged = Judged {
+        verdict,
+        pair: format!("{}; in key order {}", judged.pair, other.pair),
+        relation: other.relation,
+    };
+    Some(ordered)
+}
 
 /// Everything of one set: the build, the tree, and each statement.
-pub fn hold(side: &Side, name: &str, asked: &Asked, theirs: &Answers, again: Again, tally: &mut Tally) {
+pub fn hold(side: &Side, name: &str, asked: &Asked, theirs: &Answers, again: &Again, tally: &mut Tally) {
     let set = &asked.set;
     let rules = set.words();
     let grown = grow(side, set, &rules);
     tally.add("sets", 1);
-    let (mut verdict, mut pair) = judge_build(set, grown.number, &theirs.build);
-    let both = grown.number == 0 && matches!(theirs.build, Build::Built { .. });
-    let relation = if both {
-        hold_tree(set, &grown, theirs, tally)
-    } else {
-        Relation::Other
+    let mut judged = Judged::of(set, &grown, theirs);
+    let ordered = match judged.may_be_order(set) {
+        true => hold_in_key_order(asked, &grown, theirs, &mut judged, again),
+        false => None,
     };
-    if both {
-        (verdict, pair) = judge_tree(set, relation, verdict, pair);
-    }
-    if verdict == Verdict::Found && !set.commands.is_empty() && order_shows(theirs, &again(asked)) {
-        (verdict, pair) = (Verdict::Listed, format!("{pair}: the order of the maps"));
+    let theirs = ordered.as_ref().unwrap_or(theirs);
+    let Judged {
+        mut verdict,
+        mut pair,
+        relation,
+    } = judged;
+    if matches!(relation, Relation::Equal | Relation::Renumbered) {
+        add_tree(set, theirs, tally);
     }
     if !grown.clean {
         (verdict, pair) = (Verdict::Found, format!("{pair}: words left in the tables"));
@@ -484,7 +553,7 @@ fn order_shows(theirs: &Answers, others: &[Answers]) -> bool {
 }
 
 /// How the two trees stand to each other; other ones if the edges taken up aren't as many.
-fn hold_tree(set: &Set, grown: &Grown, theirs: &Answers, tally: &mut Tally) -> Relation {
+fn tree_relation(set: &Set, grown: &Grown, theirs: &Answers) -> Relation {
     let counted = Build::Built {
         nodes: theirs.tree.nodes.len(),
         edges: theirs.tree.edges.len(),
@@ -494,9 +563,6 @@ fn hold_tree(set: &Set, grown: &Grown, theirs: &Answers, tally: &mut Tally) -> R
     let taken = || explained(set).map(|tree| tree.taken.iter().map(|taken| taken.edges).collect());
     if theirs.build != counted || (same && !set.commands.is_empty() && taken() != Ok(theirs.taken.clone())) {
         return Relation::Other;
-    }
-    if same {
-        add_tree(set, theirs, tally);
     }
     relation
 }
@@ -593,12 +659,12 @@ fn add_equal(desk: &Desk, ours: &Walked, theirs: &Parse, goes_on: bool, tally: &
 }
 
 /// How much there is to read in a set and a statement.
-fn size(set: &Set, tokens: &[u32]) -> usize {
+pub(crate) fn size(set: &Set, tokens: &[u32]) -> usize {
     set.rules.iter().map(|rule| rule.body.len() + 1).sum::<usize>() + tokens.len()
 }
 
 /// Questions and answers on one line.
-fn told(name: &str, set: &Set, tokens: Option<&[u32]>, answers: &str) -> String {
+pub(crate) fn told(name: &str, set: &Set, tokens: Option<&[u32]>, answers: &str) -> String {
     let asked = Asked {
         set: set.clone(),
         statements: tokens.iter().map(|tokens| tokens.to_vec()).collect(),

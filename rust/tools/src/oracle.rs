@@ -274,6 +274,23 @@ impl Tree {
     }
 }
 
+/// As the lines that it is read from.
+impl Display for Tree {
+    fn fmt(&self, f: &mut fmt::Formatter) -> fmt::Result {
+        let node = |(number, node): (usize, &Node)| match node {
+            Node::Branch => format!("n {number} branch"),
+            Node::Leaf { rule, typecode, slots } => format!("n {number} leaf {rule} {typecode} {slots}"),
+        };
+        let edge = |edge: &Edge| {
+            let pairs = edge.reduces.iter().flat_map(|&(rule, offset)| [rule, offset]);
+            let key = [edge.from, edge.kind, edge.symbol, edge.to, edge.reduces.len() as u32];
+            format!("e{}", join(key.into_iter().chain(pairs)))
+        };
+        let mut lines = self.nodes.iter().enumerate().map(node).chain(self.edges.iter().map(edge));
+        lines.try_for_each(|line| writeln!(f, "{line}"))
+    }
+}
+
 fn node(text: &str) -> Result<Node, String> {
     if text == "branch" {
         return Ok(Node::Branch);

@@ -27,7 +27,7 @@ pub fn relation(ours: &Tree, theirs: &Tree) -> Relation {
 
 /// The tree with its nodes numbered as they are first reached from node 0, edges in the order of their keys. Two trees are equal but for
 /// numbers if and only if these are equal. None if some node isn't reached, or an edge leads nowhere.
-fn by_reach(tree: &Tree) -> Option<Tree> {
+pub fn by_reach(tree: &Tree) -> Option<Tree> {
     let mut leaving: BTreeMap<u32, Vec<&Edge>> = BTreeMap::new();
     for edge in &tree.edges {
         leaving.entry(edge.from).or_default().push(edge);

@@ -1,20 +1,25 @@
 //! Replays the published Rust's stored answers through the library, and shows that the replay can fail.
 
-use tools::held::{hold, Tally, Verdict};
+use tools::held::{hold, Again, Tally, Verdict};
 use tools::oracle::{Answers, Asked, Build};
 use tools::sides::{Side, LIBRARY, PLAIN};
 use tools::vectors;
 
-const FILES: [(&str, &str); 3] = [
+const FILES: [(&str, &str); 4] = [
     ("sheet", include_str!("../vectors/sheet.txt")),
     ("grown", include_str!("../vectors/grown.txt")),
     ("gardens", include_str!("../vectors/gardens.txt")),
+    ("ordered", ORDERED),
 ];
 
+/// Sets that show in which order the Rust's maps are gone through, with the answers of the Rust whose maps are in key order.
+const ORDERED: &str = include_str!("../vectors/ordered.txt");
+
 /// The Rust isn't here to be asked again.
-fn again(_: &Asked) -> Vec<Answers> {
-    Vec::new()
-}
+const NOBODY: Again = Again {
+    shuffled: &|_| Vec::new(),
+    in_key_order: &|_| None,
+};
 
 /// Each has to come up in one of the files, or the files no longer show what they are kept for.
 const PAIRS: [(Verdict, &str); 43] = [
@@ -65,7 +70,7 @@ const PAIRS: [(Verdict, &str); 43] = [
 
 fn held(asked: &Asked, answers: &Answers) -> Tally {
     let mut tally = Tally::default();
-    hold(&PLAIN, "stored", asked, answers, &again, &mut tally);
+    hold(&PLAIN, "stored", asked, answers, &NOBODY, &mut tally);
     tally
 }
 
@@ -74,7 +79,7 @@ fn replayed(side: &Side) -> Tally {
     let mut tally = Tally::default();
     for (name, text) in FILES {
         for (asked, answers) in vectors::read(text).unwrap_or_else(|why| panic!("{name}: {why}")) {
-            hold(side, name, &asked, &answers, &again, &mut tally);
+            hold(side, name, &asked, &answers, &NOBODY, &mut tally);
         }
     }
     tally
@@ -148,6 +153,43 @@ fn says_what_is_stored(side: &Side) {
     ] {
         assert!(tally.compared[what] >= least, "{what}: {}", tally.compared[what]);
     }
+}
+
+/// Not up to numbers of nodes, as it is with the unchanged Rust.
+#[test]
+fn in_key_order_trees_are_equal_with_their_numbers() {
+    for side in [&LIBRARY, &PLAIN] {
+        let mut tally = Tally::default();
+        for (asked, answers) in vectors::read(ORDERED).expect("a whole file") {
+            hold(side, "ordered", &asked, &answers, &NOBODY, &mut tally);
+        }
+        let count = |pair: &str| {
+            let seen = tally.pairs.get(&(Verdict::Same, format!("build: 0 / built{pair}")));
+            seen.map_or(0, |seen| seen.count)
+        };
+        assert_eq!((count("") > 30, count(", other numbers")), (true, 0), "{}", side.name);
+    }
+}
+
+/// Where the unchanged Rust has other numbers of nodes, the one in key order is asked, and may not have other ones.
+#[test]
+fn other_numbers_in_key_order_are_found() {
+    let mut count = 0;
+    for (asked, answers) in vectors::read(FILES[2].1).expect("a whole file") {
+        let renumbered = |tally: &Tally| tally.pairs.keys().any(|(_, pair)| pair == "build: 0 / built, other numbers");
+        if !renumbered(&held(&asked, &answers)) {
+            continue;
+        }
+        let again = Again {
+            shuffled: &|_| Vec::new(),
+            in_key_order: &|_| Some(answers.clone()),
+        };
+        let mut tally = Tally::default();
+        hold(&PLAIN, "stored", &asked, &answers, &again, &mut tally);
+        assert_eq!(tally.found(), 1, "{asked}");
+        count += 1;
+    }
+    assert!(count > 10, "{count}");
 }
 
 #[test]

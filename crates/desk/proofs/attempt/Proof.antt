@@ -2,7 +2,8 @@ use denote.Ref.{now}
 use Rattle.desk.specs.Code.{asked}
 use mathlib.Core.Path.{sym, _∙_}
 use Rattle.desk.specs.laws.Promises.{demands-passed}
-use Rattle.desk.proofs.Laws.{tried-fault, tried-walk, walk-goes}
+use Rattle.desk.proofs.Laws.{tried-fault, tried-walk}
+use Rattle.desk.specs.laws.Promises.{walk-goes}
 use borrow.Author.Needs.{needs}
 use Rattle.desk.proofs.attempt.Statement.{statement}
 use Rattle.desk.proofs.attempt.Tie as tie

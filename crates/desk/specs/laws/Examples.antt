@@ -9,10 +9,10 @@ use Rattle.words.specs.Lent.{zeros, padded}
 use Rattle.words.specs.Outcome.{sameWords}
 use Rattle.rules.specs.Rules.{Stretch}
 use Rattle.rules.specs.Sheet.{words-S, words-S10, words-T, words-U, words-V, words-W}
-use Rattle.rows.specs.Rows.{Edge, edgeOf, edgesOf, edgeWords}
+use Rattle.rows.specs.Rows.{Edge, edgeOf, edgesOf, edgeWords, leaving}
 use Rattle.rows.specs.Sheet.{edge, five, nodes-S, edges-S, tables}
 use Rattle.desk.specs.Entry.{bodyGives, Built, buildGives, Asked, Lent, Parsed, parseGives, verifyGives}
-use Rattle.desk.specs.laws.Starred.{Row, parses, checks, row, ample, every, meets, opening}
+use Rattle.desk.specs.laws.Starred.{Row, parses, checks, row, ample, every, asks, meets, opening}
 
 abbrev lent : ℕ → ℕ → ℕ → Lent
 lent f l w = record { frames = f; list = l; work = w }
@@ -119,6 +119,21 @@ verify-orders : (verifyGives 1 1 [] [] (1 ∷ []) 0 .number ≡ 10) × (verifyGi
 unfolding opening
 verify-orders = (refl, refl, refl, refl, refl)
 
+-- ---- garden paths: clones go in key order
+
+-- 1: 3 [c12]; 2: 2 [c10 s3 c11]; 3: 3 [c11]; 4: 3 [c10 s3 c12 c10]; 5: 3 [c10 c10 s3 s2]; 6: 2 [c10 s2 c10]
+set-8 : List ℕ
+set-8 = 3 ∷ 1 ∷ 0 ∷ 12 ∷ 0 ∷ 2 ∷ 3 ∷ 0 ∷ 10 ∷ 0 ∷ 1 ∷ 3 ∷ 1 ∷ 0 ∷ 11 ∷ 0 ∷ 3 ∷ 1 ∷ 0 ∷ 11 ∷ 0 ∷ 3 ∷ 4 ∷ 0 ∷ 10 ∷ 0 ∷ 1 ∷ 3 ∷ 1 ∷ 0 ∷ 12 ∷ 0 ∷ 0 ∷ 10 ∷ 0 ∷ 3 ∷ 4 ∷ 0 ∷ 10 ∷ 0 ∷ 0 ∷ 10 ∷ 0 ∷ 1 ∷ 3 ∷ 1 ∷ 1 ∷ 2 ∷ 2 ∷ 2 ∷ 3 ∷ 0 ∷ 10 ∷ 0 ∷ 1 ∷ 2 ∷ 1 ∷ 0 ∷ 10 ∷ 0 ∷ []
+
+-- c10 c10 => c10 s3, c10 c10 => c10 s2
+paths-8 : List ℕ
+paths-8 = 1 ∷ 2 ∷ 2 ∷ 0 ∷ 10 ∷ 0 ∷ 10 ∷ 0 ∷ 10 ∷ 1 ∷ 3 ∷ 1 ∷ 2 ∷ 2 ∷ 0 ∷ 10 ∷ 0 ∷ 10 ∷ 0 ∷ 10 ∷ 1 ∷ 2 ∷ []
+
+-- accepted over the tree that they make if clones go in the order of coming
+refused-8 : meets ample 2 7 [] 12 (parseGives (asks set-8 (1 ∷ 10 ∷ 10 ∷ 10 ∷ 10 ∷ 11 ∷ 10 ∷ 12 ∷ 11 ∷ 12 ∷ 10 ∷ 11 ∷ []) (buildGives 1 2 set-8 paths-8 40 480 400)) 100 ample) ≡ true
+unfolding set-8 paths-8 opening
+refused-8 = refl
+
 -- ---- builds, word for word
 
 -- set S whole, in slices a little longer than it needs
@@ -128,10 +143,6 @@ unfolding opening tables
 built-S = refl
 
 -- with rule 10: 20 nodes, 23 edges, and node 17's rows
-leaving : ℕ → List Edge → List Edge
-leaving n [] = []
-leaving n (e ∷ es) = elim (eqb (e .from) n) [ true ↦ e ∷ leaving n es | false ↦ leaving n es ]
-
 record Shape : Type 0 where
   number : ℕ
   nodes : ℕ
@@ -142,7 +153,7 @@ shape : Built → Shape
 shape b = record { number = b .number; nodes = b .nodes; edges = b .edges; of-17 = leaving 17 (edgesOf (b .edge-words)) }
 
 built-S10 : shape (buildGives 1 2 words-S10 [] 20 368 0)
-    ≡ record { number = 0; nodes = 20; edges = 23; of-17 = edge 17 0 15 18 [] ∷ edge 17 0 8 13 five ∷ edge 17 0 9 15 five ∷ [] }
+    ≡ record { number = 0; nodes = 20; edges = 23; of-17 = edge 17 0 8 13 five ∷ edge 17 0 9 15 five ∷ edge 17 0 15 18 [] ∷ [] }
 unfolding shape leaving opening tables
 built-S10 = refl
 

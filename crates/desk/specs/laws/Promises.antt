@@ -84,6 +84,12 @@ module _ (q : Asked) where
   after-by P a m zero h r = h refl
   after-by P a m (suc k) h r = r λ e. omega arith
 
+  -- no demand fails
+  pub walk-goes : (a : ℕ) (m : passes.Room) → firstFault (parseDemands q) ≡ 0
+      → walk (theTables (q .rules) (q .nodes) (q .edges)) (q .provable) (q .logic) a m (q .tokens) ≡ walkOf q a m
+  unfolding walkOf walkAfter
+  walk-goes a m h = rw h
+
   -- a refusal before the walk is one of four
   early : (n : ℕ) → n ≢ badRules → n ≢ badTables → n ≢ tooFewTokens → n ≢ tooManyTokens → firstFault (parseDemands q) ≢ 0 → firstFault (parseDemands q) ≢ n
   early n a b c d = fault-is (λ k. k ≢ 0 → k ≢ n) (λ z. absurd (z refl))
@@ -412,7 +418,7 @@ nodesIn b = take (b .nodes) (b .node-words)
 abbrev pub edgesIn : Built → List ℕ
 edgesIn b = take (rowWidth * b .edges) (b .edge-words)
 
-fault-not-0 : (y : Fault) → faultNumber y ≢ 0
+pub fault-not-0 : (y : Fault) → faultNumber y ≢ 0
 unfolding faultNumber
 fault-not-0 collides e = omega arith
 fault-not-0 noNode e = omega arith

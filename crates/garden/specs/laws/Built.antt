@@ -18,10 +18,11 @@ use Rattle.rules.specs.laws.Every.{All, all-append, all-map}
 use Rattle.rules.specs.laws.Proper.{Proper, rules-proper}
 use Rattle.rows.specs.Rows.{Reduce, Edge, edgeWords, find, tablesGood}
 use Rattle.rows.specs.laws.Fair.{ReduceOk, RowOk, Found, find-found}
+use Rattle.rows.specs.laws.Order.{all-leaving}
 use Rattle.rows.specs.laws.Words.{fair-pass}
 use Rattle.tree.specs.Grow.{Grown, Room, branchAt, addEdge, apart, plant, convertAll}
 use Rattle.tree.specs.laws.Built.{Inv, row-grows, Keeps, bind-keeps, when-keeps, then-keeps, edge-keeps, node-inv, Same, all-keep, plant-keeps}
-use Rattle.garden.specs.Garden.{Bounds, Pair, Command, conversions, path, bad, lowOffsets, raised, incrementOffsets, raisedOn, extend, diffExtend, sameReduces, rowsOfKind, standing, copyWith, copyRows, cloneWithReduceVec, Cloning, Begun, Taken, leafReduces, leafRule, takeLeaf, addBranch, storeOther, newBranch, oldBranch, takeBranch, takeBy, takeUp, begin, clones, cloneBranches, theEdge, edgeFor, leadsTo, ofKind, Parting, partAt, shadowed, Places, moveOn, alongPair, along, graftLeaf, graft, graftAt, handleCommonPrefixes, handleCommand, handleCommands, convertLast, asked, tend, build}
+use Rattle.garden.specs.Garden.{Bounds, Pair, Command, conversions, path, bad, lowOffsets, raised, incrementOffsets, raisedOn, extend, diffExtend, sameReduces, standing, copyWith, copyRows, cloneWithReduceVec, Cloning, Begun, Taken, leafReduces, leafRule, takeLeaf, addBranch, storeOther, newBranch, oldBranch, takeBranch, takeBy, takeUp, begin, clones, cloneBranches, theEdge, edgeFor, leadsTo, ofKind, Parting, partAt, shadowed, Places, moveOn, alongPair, along, graftLeaf, graft, graftAt, handleCommonPrefixes, handleCommand, handleCommands, convertLast, asked, tend, build}
 
 -- ---- lists of reduces
 
@@ -87,18 +88,9 @@ module _ (rules : ℕ) where
 
   -- ---- the rows that stand
 
-  kept : (P : Edge → Type 0) (e : Edge) (b : Bool) (es : List Edge) → P e → All P es → All P (elim b [ true ↦ e ∷ es | false ↦ es ])
-  kept P e true es p a = (p, a)
-  kept P e false es p a = a
-
-  kind-all : (P : Edge → Type 0) (n k : ℕ) (es : List Edge) → All P es → All P (rowsOfKind n k es)
-  unfolding rowsOfKind
-  kind-all P n k [] a = tt
-  kind-all P n k (e ∷ es) a = kept P e (eqb (e .from) n && eqb (e .kind) k) (rowsOfKind n k es) (a .0) (kind-all P n k es (a .1))
-
   standing-all : (P : Edge → Type 0) (n : ℕ) (es : List Edge) → All P es → All P (standing n es)
   unfolding standing
-  standing-all P n es a = all-append P (rowsOfKind n 0 es) (rowsOfKind n 1 es) (kind-all P n 0 es a) (kind-all P n 1 es a)
+  standing-all P n es a = all-leaving P n es a
 
   -- ---- nodes that rows are given to
 
@@ -113,8 +105,8 @@ module _ (rules : ℕ) where
   module _ (z : Room) (ns : List ℕ) (m : ℕ) (i : Inner ns m) (b : getD ns m 0 ≡ 0) where
     -- the key of a good row, from another branch than 0
     row-keeps : (g : Grown) (e : Edge) (t : ℕ) (ds : List Reduce) → Same rules z ns g → RowOk rules ns e → Inner ns t → Carried ds
-        → Keeps (Same rules z ns) (addEdge z g (record { from = m; kind = e .kind; sym = e .sym; to = t; reduces = ds }))
-    row-keeps g e t ds v r j c = edge-keeps rules z (Same rules z ns) g (record { from = m; kind = e .kind; sym = e .sym; to = t; reduces = ds }) (v .0)
+        → find (g .edges) m (e .kind) (e .sym) ≡ none → Keeps (Same rules z ns) (addEdge z g (record { from = m; kind = e .kind; sym = e .sym; to = t; reduces = ds }))
+    row-keeps g e t ds v r j c f = edge-keeps rules z (Same rules z ns) g (record { from = m; kind = e .kind; sym = e .sym; to = t; reduces = ds }) (v .0)
         (rw (v .1) (record {
           from-in = i .inside;
           from-branch = b;
@@ -126,19 +118,21 @@ module _ (rules : ℕ) where
           few = c .0;
           reduces-ok = c .1;
         }))
+        f
         λ u. (u, v .1)
 
-    with-keeps : (ds : List Reduce) (g : Grown) (e : Edge) (o : Option Edge) → Stored ds → Same rules z ns g → RowOk rules ns e → Keeps (Same rules z ns) (copyWith z m ds g e o)
+    with-keeps : (ds : List Reduce) (g : Grown) (e : Edge) (o : Option Edge) → find (g .edges) m (e .kind) (e .sym) ≡ o → Stored ds → Same rules z ns g → RowOk rules ns e
+        → Keeps (Same rules z ns) (copyWith z m ds g e o)
     unfolding copyWith
-    with-keeps ds g e (some d) a v r = v
-    with-keeps ds g e none a v r = then-keeps (Same rules z ns) Stored (raisedOn (e .kind) ds) _ (raised-keeps (e .kind) ds a)
+    with-keeps ds g e (some d) f a v r = v
+    with-keeps ds g e none f a v r = then-keeps (Same rules z ns) Stored (raisedOn (e .kind) ds) _ (raised-keeps (e .kind) ds a)
         λ ds a. then-keeps (Same rules z ns) Carried (extend (e .reduces) ds) _ (extend-keeps (e .reduces) ds (r .reduces-ok) a)
-        λ ds c. row-keeps g e (e .to) ds v r (end-inner ns e r) c
+        λ ds c. row-keeps g e (e .to) ds v r (end-inner ns e r) c f
 
     rows-keep : (ds : List Reduce) (es : List Edge) (g : Grown) → Stored ds → Same rules z ns g → All (RowOk rules ns) es → Keeps (Same rules z ns) (copyRows z m ds es g)
     unfolding copyRows
     rows-keep ds [] g a v r = v
-    rows-keep ds (e ∷ es) g a v r = then-keeps (Same rules z ns) (Same rules z ns) _ _ (with-keeps ds g e _ a v (r .0)) λ g v. rows-keep ds es g a v (r .1)
+    rows-keep ds (e ∷ es) g a v r = then-keeps (Same rules z ns) (Same rules z ns) _ _ (with-keeps ds g e _ refl a v (r .0)) λ g v. rows-keep ds es g a v (r .1)
 
     clone-keeps : (n : ℕ) (ds : List Reduce) (g : Grown) → Stored ds → Same rules z ns g → Keeps (Same rules z ns) (cloneWithReduceVec z n m ds g)
     unfolding cloneWithReduceVec
@@ -182,11 +176,11 @@ module _ (rules : ℕ) where
 
   module _ (z : Room) (g : Grown) (v : Inv rules z g) (t : ℕ) (j : Inner (g .nodes) t) (m : ℕ) (i : Inner (g .nodes) m) (ds : List Reduce) (a : Stored ds) (e : Edge) (r : RowOk rules (g .nodes) e) where
     module _ (b : getD (g .nodes) m 0 ≡ 0) where
-      leaf-keeps : (o : Option Edge) → branchAt g (e .to) ≡ false → Found (RowOk rules (g .nodes)) m (e .kind) (e .sym) o → Keeps (Same rules z (g .nodes)) (takeLeaf z t m ds g e o)
+      leaf-keeps : (o : Option Edge) → branchAt g (e .to) ≡ false → Found (RowOk rules (g .nodes)) m (e .kind) (e .sym) o → find (g .edges) m (e .kind) (e .sym) ≡ o → Keeps (Same rules z (g .nodes)) (takeLeaf z t m ds g e o)
       unfolding takeLeaf
-      leaf-keeps none l f = then-keeps (Same rules z (g .nodes)) Carried (leafReduces (leafRule g e) e ds) _ (leaf-reduces-keep (leafRule g e) e ds (leaf-rule z g (e .to) v l) (r .reduces-ok) a)
-          λ ds c. row-keeps z (g .nodes) m i b g e t ds (v, refl) r j c
-      leaf-keeps (some d) l f = bind-keeps (Same rules z (g .nodes)) (apart g t (d .to)) badCopy g _
+      leaf-keeps none l f k = then-keeps (Same rules z (g .nodes)) Carried (leafReduces (leafRule g e) e ds) _ (leaf-reduces-keep (leafRule g e) e ds (leaf-rule z g (e .to) v l) (r .reduces-ok) a)
+          λ ds c. row-keeps z (g .nodes) m i b g e t ds (v, refl) r j c k
+      leaf-keeps (some d) l f k = bind-keeps (Same rules z (g .nodes)) (apart g t (d .to)) badCopy g _
           λ h. then-keeps (Same rules z (g .nodes)) Carried (leafReduces (leafRule g e) e ds) _ (leaf-reduces-keep (leafRule g e) e ds (leaf-rule z g (e .to) v l) (r .reduces-ok) a)
           λ ds c. clone-keeps z (g .nodes) (d .to) (end-inner (g .nodes) d (f .0)) (apart-branch g t (d .to) h) t ds g (c .1) (v, refl)
 
@@ -200,19 +194,19 @@ module _ (rules : ℕ) where
       new-inner : Inner more (length (g .nodes))
       new-inner = record { inside = simp length-append (omega arith); inner = λ h. omega (arith, v .fair .some-node) }
 
-      add-keeps : Keeps (Same rules z more) (addBranch z g m e)
+      add-keeps : find (g .edges) m (e .kind) (e .sym) ≡ none → Keeps (Same rules z more) (addBranch z g m e)
       unfolding addBranch
-      add-keeps = bind-keeps (Same rules z more) (ltb (length (g .nodes)) (z .nodes)) noNode (length (g .nodes)) _
+      add-keeps k = bind-keeps (Same rules z more) (ltb (length (g .nodes)) (z .nodes)) noNode (length (g .nodes)) _
           λ h. row-keeps z more m (inner-stays (g .nodes) more m since-more i) (List·getD-append (g .nodes) (0 ∷ []) 0 m (i .inside) ∙ b)
           (record { nodes = more; edges = g .edges }) e (length (g .nodes)) (e .reduces) (node-inv rules z g 0 v (omega arith) (ltb-true _ _ h), refl)
-          (row-grows rules (g .nodes) 0 e r) new-inner (r .few, r .reduces-ok)
+          (row-grows rules (g .nodes) 0 e r) new-inner (r .few, r .reduces-ok) k
 
-      branch-keeps : (o : Option Edge) → Found (RowOk rules (g .nodes)) m (e .kind) (e .sym) o → Keeps (TakenOk z (g .nodes)) (takeBranch z m ds g e o)
+      branch-keeps : (o : Option Edge) → Found (RowOk rules (g .nodes)) m (e .kind) (e .sym) o → find (g .edges) m (e .kind) (e .sym) ≡ o → Keeps (TakenOk z (g .nodes)) (takeBranch z m ds g e o)
       unfolding takeBranch newBranch oldBranch
-      branch-keeps none f = then-keeps (TakenOk z (g .nodes)) Stored (raisedOn (e .kind) ds) _ (raised-keeps (e .kind) ds a)
-          λ ds a. then-keeps (TakenOk z (g .nodes)) (Same rules z more) (addBranch z g m e) _ add-keeps
+      branch-keeps none f k = then-keeps (TakenOk z (g .nodes)) Stored (raisedOn (e .kind) ds) _ (raised-keeps (e .kind) ds a)
+          λ ds a. then-keeps (TakenOk z (g .nodes)) (Same rules z more) (addBranch z g m e) _ (add-keeps k)
           λ h s. record { grown-ok = s .0; since = rw (s .1) since-more; next-ok = (rw (s .1) new-inner, a) }
-      branch-keeps (some d) f = then-keeps (TakenOk z (g .nodes)) Stored (raisedOn (e .kind) ds) _ (raised-keeps (e .kind) ds a)
+      branch-keeps (some d) f k = then-keeps (TakenOk z (g .nodes)) Stored (raisedOn (e .kind) ds) _ (raised-keeps (e .kind) ds a)
           λ ds a. then-keeps (TakenOk z (g .nodes)) Stored (storeOther ds e d) _ (store-keeps ds e d a (r .reduces-ok))
           λ ds a. record { grown-ok = v; since = still (g .nodes); next-ok = (end-inner (g .nodes) d (f .0), a) }
 
@@ -221,8 +215,8 @@ module _ (rules : ℕ) where
 
       take-keeps : (x : Bool) → branchAt g (e .to) ≡ x → Keeps (TakenOk z (g .nodes)) (takeBy z t m ds g e x)
       unfolding takeBy
-      take-keeps true l = branch-keeps _ found
-      take-keeps false l = then-keeps (TakenOk z (g .nodes)) (Same rules z (g .nodes)) _ _ (leaf-keeps _ l found)
+      take-keeps true l = branch-keeps _ found refl
+      take-keeps false l = then-keeps (TakenOk z (g .nodes)) (Same rules z (g .nodes)) _ _ (leaf-keeps _ l found refl)
           λ h s. record { grown-ok = s .0; since = rw (s .1) (still (g .nodes)); next-ok = tt }
 
     up-keeps : Keeps (TakenOk z (g .nodes)) (takeUp z t m ds g e)

@@ -31,14 +31,16 @@ rules-e1 = rule 2 (con 10 ∷ []) ∷ rule 2 (con 5 ∷ slot 3 ∷ []) ∷ rule 
 
 e1-1 : build wide rules-e1 (theCommands ([])) ≡ ok (record {
   nodes = 0 ∷ 1 ∷ 0 ∷ 2 ∷ 4 ∷ [];
-  edges = edge 0 0 10 1 [] ∷ edge 0 0 5 2 [] ∷ edge 2 1 3 3 [] ∷ edge 0 0 12 4 [] ∷ edge 2 1 4 3 (reduce 3 0 ∷ []) ∷ [];
+  edges = edge 0 0 5 2 [] ∷ edge 0 0 10 1 [] ∷ edge 0 0 12 4 [] ∷ edge 2 1 3 3 [] ∷ edge 2 1 4 3 (reduce 3 0 ∷ [])
+      ∷ [];
 })
 unfolding rules-e1 gardening
 e1-1 = refl
 
 e1-2 : build wide rules-e1 (theCommands (2 ∷ [])) ≡ ok (record {
   nodes = 0 ∷ 1 ∷ 0 ∷ 2 ∷ 4 ∷ [];
-  edges = edge 0 0 10 1 [] ∷ edge 0 0 5 2 [] ∷ edge 2 1 3 3 [] ∷ edge 0 0 12 4 [] ∷ edge 2 1 4 3 (reduce 3 0 ∷ []) ∷ [];
+  edges = edge 0 0 5 2 [] ∷ edge 0 0 10 1 [] ∷ edge 0 0 12 4 [] ∷ edge 2 1 3 3 [] ∷ edge 2 1 4 3 (reduce 3 0 ∷ [])
+      ∷ [];
 })
 unfolding rules-e1 gardening
 e1-2 = refl
@@ -50,8 +52,8 @@ rules-e2 = rule 3 (con 20 ∷ []) ∷ rule 2 (con 21 ∷ []) ∷ rule 2 (slot 3 
 
 e2-1 : build wide rules-e2 (theCommands ([])) ≡ ok (record {
   nodes = 0 ∷ 1 ∷ 2 ∷ 0 ∷ 0 ∷ 3 ∷ 0 ∷ 0 ∷ 0 ∷ 0 ∷ 4 ∷ 0 ∷ 0 ∷ 0 ∷ 5 ∷ [];
-  edges = edge 0 0 20 1 [] ∷ edge 0 0 21 2 [] ∷ edge 0 1 3 3 [] ∷ edge 3 0 8 4 [] ∷ edge 4 1 3 5 [] ∷ edge 0 0 5 6 []
-      ∷ edge 6 1 3 7 [] ∷ edge 7 0 9 8 [] ∷ edge 8 1 3 9 [] ∷ edge 9 0 6 10 [] ∷ edge 6 1 2 11 [] ∷ edge 11 0 7 12 []
+  edges = edge 0 0 5 6 [] ∷ edge 0 0 20 1 [] ∷ edge 0 0 21 2 [] ∷ edge 0 1 3 3 [] ∷ edge 3 0 8 4 [] ∷ edge 4 1 3 5 []
+      ∷ edge 6 1 2 11 [] ∷ edge 6 1 3 7 [] ∷ edge 7 0 9 8 [] ∷ edge 8 1 3 9 [] ∷ edge 9 0 6 10 [] ∷ edge 11 0 7 12 []
       ∷ edge 12 1 2 13 [] ∷ edge 13 0 6 14 [] ∷ [];
 })
 unfolding rules-e2 gardening
@@ -59,9 +61,9 @@ e2-1 = refl
 
 e2-2 : build wide rules-e2 (theCommands (1 ∷ 2 ∷ 2 ∷ 0 ∷ 5 ∷ 1 ∷ 3 ∷ 0 ∷ 5 ∷ 1 ∷ 2 ∷ [])) ≡ ok (record {
   nodes = 0 ∷ 1 ∷ 2 ∷ 0 ∷ 0 ∷ 3 ∷ 0 ∷ 0 ∷ 0 ∷ 0 ∷ 4 ∷ 0 ∷ 0 ∷ 0 ∷ 5 ∷ 0 ∷ [];
-  edges = edge 0 0 20 1 [] ∷ edge 0 0 21 2 [] ∷ edge 0 1 3 3 [] ∷ edge 3 0 8 4 [] ∷ edge 4 1 3 5 [] ∷ edge 0 0 5 6 []
-      ∷ edge 6 1 3 7 [] ∷ edge 7 0 9 8 [] ∷ edge 8 1 3 9 [] ∷ edge 9 0 6 10 [] ∷ edge 6 1 2 11 [] ∷ edge 11 0 7 12 []
-      ∷ edge 12 1 2 13 [] ∷ edge 13 0 6 14 [] ∷ edge 7 0 8 15 [] ∷ edge 15 1 3 11 (reduce 3 0 ∷ []) ∷ [];
+  edges = edge 0 0 5 6 [] ∷ edge 0 0 20 1 [] ∷ edge 0 0 21 2 [] ∷ edge 0 1 3 3 [] ∷ edge 3 0 8 4 [] ∷ edge 4 1 3 5 []
+      ∷ edge 6 1 2 11 [] ∷ edge 6 1 3 7 [] ∷ edge 7 0 8 15 [] ∷ edge 7 0 9 8 [] ∷ edge 8 1 3 9 [] ∷ edge 9 0 6 10 []
+      ∷ edge 11 0 7 12 [] ∷ edge 12 1 2 13 [] ∷ edge 13 0 6 14 [] ∷ edge 15 1 3 11 (reduce 3 0 ∷ []) ∷ [];
 })
 unfolding rules-e2 gardening
 e2-2 = refl
@@ -74,26 +76,27 @@ rules-e3 = rule 3 (con 20 ∷ []) ∷ rule 2 (con 21 ∷ []) ∷ rule 2 (slot 3 
 
 e3-1 : build wide rules-e3 (theCommands (1 ∷ 2 ∷ 2 ∷ 0 ∷ 5 ∷ 1 ∷ 3 ∷ 0 ∷ 5 ∷ 1 ∷ 2 ∷ 2 ∷ [])) ≡ ok (record {
   nodes = 0 ∷ 1 ∷ 2 ∷ 0 ∷ 0 ∷ 3 ∷ 0 ∷ 0 ∷ 0 ∷ 0 ∷ 4 ∷ 0 ∷ 0 ∷ 0 ∷ 5 ∷ 6 ∷ 0 ∷ 0 ∷ 0 ∷ 0 ∷ 0 ∷ 8 ∷ 0 ∷ [];
-  edges = edge 0 0 20 1 [] ∷ edge 0 0 21 2 [] ∷ edge 0 1 3 3 [] ∷ edge 3 0 8 4 [] ∷ edge 4 1 3 5 [] ∷ edge 0 0 5 6 []
-      ∷ edge 6 1 3 7 [] ∷ edge 7 0 9 8 [] ∷ edge 8 1 3 9 [] ∷ edge 9 0 6 10 [] ∷ edge 6 1 2 11 [] ∷ edge 11 0 7 12 []
-      ∷ edge 12 1 2 13 [] ∷ edge 13 0 6 14 [] ∷ edge 0 0 22 15 [] ∷ edge 6 1 4 16 [] ∷ edge 16 0 8 17 [] ∷ edge 17 1 3 18 []
-      ∷ edge 18 0 10 19 [] ∷ edge 19 1 3 20 [] ∷ edge 20 0 6 21 [] ∷ edge 7 0 8 22 [] ∷ edge 22 1 3 11 (reduce 3 0 ∷ [])
-      ∷ edge 0 1 4 3 (reduce 7 0 ∷ []) ∷ edge 4 1 4 5 (reduce 7 0 ∷ []) ∷ edge 16 0 9 8 (reduce 7 0 ∷ [])
-      ∷ edge 8 1 4 9 (reduce 7 0 ∷ []) ∷ edge 17 1 4 18 (reduce 7 0 ∷ []) ∷ edge 19 1 4 20 (reduce 7 0 ∷ [])
-      ∷ edge 22 1 4 11 (reduce 7 0 ∷ reduce 3 0 ∷ []) ∷ [];
+  edges = edge 0 0 5 6 [] ∷ edge 0 0 20 1 [] ∷ edge 0 0 21 2 [] ∷ edge 0 0 22 15 [] ∷ edge 0 1 3 3 []
+      ∷ edge 0 1 4 3 (reduce 7 0 ∷ []) ∷ edge 3 0 8 4 [] ∷ edge 4 1 3 5 [] ∷ edge 4 1 4 5 (reduce 7 0 ∷ [])
+      ∷ edge 6 1 2 11 [] ∷ edge 6 1 3 7 [] ∷ edge 6 1 4 16 [] ∷ edge 7 0 8 22 [] ∷ edge 7 0 9 8 [] ∷ edge 8 1 3 9 []
+      ∷ edge 8 1 4 9 (reduce 7 0 ∷ []) ∷ edge 9 0 6 10 [] ∷ edge 11 0 7 12 [] ∷ edge 12 1 2 13 [] ∷ edge 13 0 6 14 []
+      ∷ edge 16 0 8 17 [] ∷ edge 16 0 9 8 (reduce 7 0 ∷ []) ∷ edge 17 1 3 18 [] ∷ edge 17 1 4 18 (reduce 7 0 ∷ [])
+      ∷ edge 18 0 10 19 [] ∷ edge 19 1 3 20 [] ∷ edge 19 1 4 20 (reduce 7 0 ∷ []) ∷ edge 20 0 6 21 []
+      ∷ edge 22 1 3 11 (reduce 3 0 ∷ []) ∷ edge 22 1 4 11 (reduce 7 0 ∷ reduce 3 0 ∷ []) ∷ [];
 })
 unfolding rules-e3 gardening
 e3-1 = refl
 
 e3-2 : build wide rules-e3 (theCommands (1 ∷ 2 ∷ 2 ∷ 0 ∷ 5 ∷ 1 ∷ 3 ∷ 0 ∷ 5 ∷ 1 ∷ 2 ∷ 2 ∷ 1 ∷ 4 ∷ 2 ∷ 0 ∷ 5 ∷ 1 ∷ 4 ∷ 0 ∷ 8 ∷ 1 ∷ 3 ∷ 0 ∷ 5 ∷ 1 ∷ 2 ∷ [])) ≡ ok (record {
   nodes = 0 ∷ 1 ∷ 2 ∷ 0 ∷ 0 ∷ 3 ∷ 0 ∷ 0 ∷ 0 ∷ 0 ∷ 4 ∷ 0 ∷ 0 ∷ 0 ∷ 5 ∷ 6 ∷ 0 ∷ 0 ∷ 0 ∷ 0 ∷ 0 ∷ 8 ∷ 0 ∷ [];
-  edges = edge 0 0 20 1 [] ∷ edge 0 0 21 2 [] ∷ edge 0 1 3 3 [] ∷ edge 3 0 8 4 [] ∷ edge 4 1 3 5 [] ∷ edge 0 0 5 6 []
-      ∷ edge 6 1 3 7 [] ∷ edge 7 0 9 8 [] ∷ edge 8 1 3 9 [] ∷ edge 9 0 6 10 [] ∷ edge 6 1 2 11 [] ∷ edge 11 0 7 12 []
-      ∷ edge 12 1 2 13 [] ∷ edge 13 0 6 14 [] ∷ edge 0 0 22 15 [] ∷ edge 6 1 4 16 [] ∷ edge 16 0 8 17 [] ∷ edge 17 1 3 18 []
-      ∷ edge 18 0 10 19 [] ∷ edge 19 1 3 20 [] ∷ edge 20 0 6 21 [] ∷ edge 7 0 8 22 [] ∷ edge 22 1 3 11 (reduce 3 0 ∷ [])
-      ∷ edge 0 1 4 3 (reduce 7 0 ∷ []) ∷ edge 4 1 4 5 (reduce 7 0 ∷ []) ∷ edge 16 0 9 8 (reduce 7 0 ∷ [])
-      ∷ edge 8 1 4 9 (reduce 7 0 ∷ []) ∷ edge 17 1 4 18 (reduce 7 0 ∷ []) ∷ edge 19 1 4 20 (reduce 7 0 ∷ [])
-      ∷ edge 22 1 4 11 (reduce 7 0 ∷ reduce 3 0 ∷ []) ∷ edge 18 0 7 12 (reduce 7 1 ∷ reduce 3 0 ∷ []) ∷ [];
+  edges = edge 0 0 5 6 [] ∷ edge 0 0 20 1 [] ∷ edge 0 0 21 2 [] ∷ edge 0 0 22 15 [] ∷ edge 0 1 3 3 []
+      ∷ edge 0 1 4 3 (reduce 7 0 ∷ []) ∷ edge 3 0 8 4 [] ∷ edge 4 1 3 5 [] ∷ edge 4 1 4 5 (reduce 7 0 ∷ [])
+      ∷ edge 6 1 2 11 [] ∷ edge 6 1 3 7 [] ∷ edge 6 1 4 16 [] ∷ edge 7 0 8 22 [] ∷ edge 7 0 9 8 [] ∷ edge 8 1 3 9 []
+      ∷ edge 8 1 4 9 (reduce 7 0 ∷ []) ∷ edge 9 0 6 10 [] ∷ edge 11 0 7 12 [] ∷ edge 12 1 2 13 [] ∷ edge 13 0 6 14 []
+      ∷ edge 16 0 8 17 [] ∷ edge 16 0 9 8 (reduce 7 0 ∷ []) ∷ edge 17 1 3 18 [] ∷ edge 17 1 4 18 (reduce 7 0 ∷ [])
+      ∷ edge 18 0 7 12 (reduce 7 1 ∷ reduce 3 0 ∷ []) ∷ edge 18 0 10 19 [] ∷ edge 19 1 3 20 []
+      ∷ edge 19 1 4 20 (reduce 7 0 ∷ []) ∷ edge 20 0 6 21 [] ∷ edge 22 1 3 11 (reduce 3 0 ∷ [])
+      ∷ edge 22 1 4 11 (reduce 7 0 ∷ reduce 3 0 ∷ []) ∷ [];
 })
 unfolding rules-e3 gardening
 e3-2 = refl
@@ -106,14 +109,14 @@ rules-e4 = rule 3 (con 20 ∷ []) ∷ rule 4 (con 22 ∷ []) ∷ rule 3 (slot 4 
 
 e4 : build wide rules-e4 (theCommands (2 ∷ 1 ∷ 2 ∷ 2 ∷ 0 ∷ 5 ∷ 0 ∷ 7 ∷ 0 ∷ 5 ∷ 1 ∷ 3 ∷ [])) ≡ ok (record {
   nodes = 0 ∷ 1 ∷ 2 ∷ 0 ∷ 0 ∷ 4 ∷ 0 ∷ 0 ∷ 0 ∷ 0 ∷ 5 ∷ 0 ∷ 0 ∷ 0 ∷ 0 ∷ 0 ∷ 0 ∷ 0 ∷ 6 ∷ 0 ∷ 0 ∷ 0 ∷ 0 ∷ 0 ∷ [];
-  edges = edge 0 0 20 1 [] ∷ edge 0 0 22 2 [] ∷ edge 0 0 5 3 [] ∷ edge 3 1 3 4 [] ∷ edge 4 0 6 5 [] ∷ edge 0 0 7 6 []
-      ∷ edge 6 1 3 7 [] ∷ edge 7 0 8 8 [] ∷ edge 8 1 3 9 [] ∷ edge 9 0 9 10 [] ∷ edge 3 0 7 11 [] ∷ edge 11 1 4 12 []
-      ∷ edge 12 0 8 13 [] ∷ edge 13 1 4 14 [] ∷ edge 14 0 9 15 [] ∷ edge 15 0 11 16 [] ∷ edge 16 1 3 17 []
-      ∷ edge 17 0 6 18 [] ∷ edge 3 1 4 4 (reduce 3 0 ∷ []) ∷ edge 6 1 4 7 (reduce 3 0 ∷ []) ∷ edge 8 1 4 9 (reduce 3 0 ∷ [])
-      ∷ edge 16 1 4 17 (reduce 3 0 ∷ []) ∷ edge 11 1 3 19 [] ∷ edge 19 0 8 20 [] ∷ edge 20 1 3 21 []
-      ∷ edge 21 0 9 4 (reduce 5 0 ∷ []) ∷ edge 20 1 4 22 (reduce 3 0 ∷ []) ∷ edge 22 0 9 4 (reduce 5 0 ∷ [])
-      ∷ edge 13 1 3 23 [] ∷ edge 23 0 9 4 (reduce 3 1 ∷ reduce 5 0 ∷ []) ∷ edge 15 0 6 5 (reduce 3 1 ∷ reduce 3 0
-      ∷ reduce 5 0 ∷ []) ∷ [];
+  edges = edge 0 0 5 3 [] ∷ edge 0 0 7 6 [] ∷ edge 0 0 20 1 [] ∷ edge 0 0 22 2 [] ∷ edge 3 0 7 11 [] ∷ edge 3 1 3 4 []
+      ∷ edge 3 1 4 4 (reduce 3 0 ∷ []) ∷ edge 4 0 6 5 [] ∷ edge 6 1 3 7 [] ∷ edge 6 1 4 7 (reduce 3 0 ∷ [])
+      ∷ edge 7 0 8 8 [] ∷ edge 8 1 3 9 [] ∷ edge 8 1 4 9 (reduce 3 0 ∷ []) ∷ edge 9 0 9 10 [] ∷ edge 11 1 3 19 []
+      ∷ edge 11 1 4 12 [] ∷ edge 12 0 8 13 [] ∷ edge 13 1 3 23 [] ∷ edge 13 1 4 14 [] ∷ edge 14 0 9 15 []
+      ∷ edge 15 0 6 5 (reduce 3 1 ∷ reduce 3 0 ∷ reduce 5 0 ∷ []) ∷ edge 15 0 11 16 [] ∷ edge 16 1 3 17 []
+      ∷ edge 16 1 4 17 (reduce 3 0 ∷ []) ∷ edge 17 0 6 18 [] ∷ edge 19 0 8 20 [] ∷ edge 20 1 3 21 []
+      ∷ edge 20 1 4 22 (reduce 3 0 ∷ []) ∷ edge 21 0 9 4 (reduce 5 0 ∷ []) ∷ edge 22 0 9 4 (reduce 5 0 ∷ [])
+      ∷ edge 23 0 9 4 (reduce 3 1 ∷ reduce 5 0 ∷ []) ∷ [];
 })
 unfolding rules-e4 gardening
 e4 = refl
@@ -125,8 +128,8 @@ rules-e5 = rule 2 (con 10 ∷ slot 2 ∷ slot 2 ∷ []) ∷ rule 2 (con 10 ∷ c
 
 e5 : build wide rules-e5 (theCommands (1 ∷ 2 ∷ 2 ∷ 0 ∷ 10 ∷ 0 ∷ 11 ∷ 0 ∷ 10 ∷ 1 ∷ 2 ∷ [])) ≡ ok (record {
   nodes = 0 ∷ 0 ∷ 0 ∷ 1 ∷ 0 ∷ 2 ∷ 3 ∷ 4 ∷ [];
-  edges = edge 0 0 10 1 [] ∷ edge 1 1 2 2 [] ∷ edge 2 1 2 3 [] ∷ edge 1 0 11 4 [] ∷ edge 4 0 10 5 [] ∷ edge 0 0 11 6 []
-      ∷ edge 0 0 12 7 [] ∷ edge 4 1 2 3 (reduce 3 1 ∷ []) ∷ [];
+  edges = edge 0 0 10 1 [] ∷ edge 0 0 11 6 [] ∷ edge 0 0 12 7 [] ∷ edge 1 0 11 4 [] ∷ edge 1 1 2 2 []
+      ∷ edge 2 1 2 3 [] ∷ edge 4 0 10 5 [] ∷ edge 4 1 2 3 (reduce 3 1 ∷ []) ∷ [];
 })
 unfolding rules-e5 gardening
 e5 = refl
@@ -137,8 +140,8 @@ rules-e6 = rule 2 (con 10 ∷ slot 2 ∷ con 11 ∷ []) ∷ rule 2 (con 12 ∷ [
 
 e6 : build wide rules-e6 (theCommands (1 ∷ 2 ∷ 2 ∷ 0 ∷ 10 ∷ 0 ∷ 12 ∷ 0 ∷ 10 ∷ 1 ∷ 2 ∷ [])) ≡ ok (record {
   nodes = 0 ∷ 0 ∷ 0 ∷ 1 ∷ 2 ∷ 0 ∷ 0 ∷ 3 ∷ [];
-  edges = edge 0 0 10 1 [] ∷ edge 1 1 2 2 [] ∷ edge 2 0 11 3 [] ∷ edge 0 0 12 4 [] ∷ edge 1 0 12 5 [] ∷ edge 5 0 11 6 []
-      ∷ edge 6 0 10 7 [] ∷ [];
+  edges = edge 0 0 10 1 [] ∷ edge 0 0 12 4 [] ∷ edge 1 0 12 5 [] ∷ edge 1 1 2 2 [] ∷ edge 2 0 11 3 []
+      ∷ edge 5 0 11 6 [] ∷ edge 6 0 10 7 [] ∷ [];
 })
 unfolding rules-e6 gardening
 e6 = refl
@@ -149,7 +152,7 @@ rules-e7 = rule 2 (con 10 ∷ slot 2 ∷ []) ∷ rule 2 (con 10 ∷ con 10 ∷ c
 
 e7 : build wide rules-e7 (theCommands (1 ∷ 3 ∷ 2 ∷ 0 ∷ 10 ∷ 0 ∷ 10 ∷ 0 ∷ 10 ∷ 0 ∷ 10 ∷ 1 ∷ 2 ∷ [])) ≡ ok (record {
   nodes = 0 ∷ 0 ∷ 1 ∷ 0 ∷ 2 ∷ [];
-  edges = edge 0 0 10 1 [] ∷ edge 1 1 2 2 [] ∷ edge 1 0 10 3 [] ∷ edge 3 0 10 4 [] ∷ [];
+  edges = edge 0 0 10 1 [] ∷ edge 1 0 10 3 [] ∷ edge 1 1 2 2 [] ∷ edge 3 0 10 4 [] ∷ [];
 })
 unfolding rules-e7 gardening
 e7 = refl
@@ -160,8 +163,8 @@ rules-e8 = rule 2 (con 10 ∷ con 10 ∷ con 10 ∷ []) ∷ rule 2 (con 10 ∷ s
 
 e8 : build wide rules-e8 (theCommands (1 ∷ 2 ∷ 2 ∷ 0 ∷ 10 ∷ 0 ∷ 10 ∷ 0 ∷ 10 ∷ 1 ∷ 3 ∷ [])) ≡ ok (record {
   nodes = 0 ∷ 0 ∷ 0 ∷ 1 ∷ 0 ∷ 2 ∷ 3 ∷ 0 ∷ [];
-  edges = edge 0 0 10 1 [] ∷ edge 1 0 10 2 [] ∷ edge 2 0 10 3 [] ∷ edge 1 1 3 4 [] ∷ edge 4 0 10 5 [] ∷ edge 0 0 11 6 []
-      ∷ edge 2 1 3 7 [] ∷ edge 7 0 10 4 (reduce 2 0 ∷ []) ∷ [];
+  edges = edge 0 0 10 1 [] ∷ edge 0 0 11 6 [] ∷ edge 1 0 10 2 [] ∷ edge 1 1 3 4 [] ∷ edge 2 0 10 3 []
+      ∷ edge 2 1 3 7 [] ∷ edge 4 0 10 5 [] ∷ edge 7 0 10 4 (reduce 2 0 ∷ []) ∷ [];
 })
 unfolding rules-e8 gardening
 e8 = refl
@@ -174,22 +177,66 @@ rules-e9 = rule 2 (con 10 ∷ []) ∷ rule 3 (con 11 ∷ []) ∷ rule 2 (slot 3 
 
 e9 : build wide rules-e9 (theCommands (2 ∷ 1 ∷ 2 ∷ 2 ∷ 0 ∷ 7 ∷ 0 ∷ 7 ∷ 0 ∷ 7 ∷ 1 ∷ 2 ∷ 1 ∷ 2 ∷ 2 ∷ 0 ∷ 5 ∷ 0 ∷ 7 ∷ 0 ∷ 5 ∷ 1 ∷ 2 ∷ [])) ≡ ok (record {
   nodes = 0 ∷ 1 ∷ 2 ∷ 0 ∷ 0 ∷ 4 ∷ 0 ∷ 0 ∷ 5 ∷ 0 ∷ 0 ∷ 0 ∷ 6 ∷ 0 ∷ 7 ∷ 0 ∷ 0 ∷ 0 ∷ 0 ∷ 0 ∷ 0 ∷ 0 ∷ 0 ∷ 0 ∷ [];
-  edges = edge 0 0 10 1 [] ∷ edge 0 0 11 2 [] ∷ edge 0 0 5 3 [] ∷ edge 3 1 2 4 [] ∷ edge 4 0 6 5 [] ∷ edge 0 0 7 6 []
-      ∷ edge 6 1 2 7 [] ∷ edge 7 1 2 8 [] ∷ edge 3 0 7 9 [] ∷ edge 9 0 7 10 [] ∷ edge 10 1 3 11 [] ∷ edge 11 0 6 12 []
-      ∷ edge 6 0 7 13 [] ∷ edge 13 0 10 14 [] ∷ edge 3 1 3 4 (reduce 3 0 ∷ []) ∷ edge 6 1 3 7 (reduce 3 0 ∷ [])
-      ∷ edge 7 1 3 8 (reduce 3 0 ∷ []) ∷ edge 13 1 2 15 [] ∷ edge 15 1 2 7 (reduce 5 0 ∷ []) ∷ edge 15 1 3 7 (reduce 3 0
-      ∷ reduce 5 0 ∷ []) ∷ edge 13 1 3 16 (reduce 3 0 ∷ []) ∷ edge 16 1 2 7 (reduce 5 0 ∷ []) ∷ edge 16 1 3 7 (reduce 3 0
-      ∷ reduce 5 0 ∷ []) ∷ edge 10 0 10 4 (reduce 7 0 ∷ []) ∷ edge 10 1 2 17 [] ∷ edge 17 1 2 18 (reduce 5 0 ∷ [])
-      ∷ edge 18 1 2 4 (reduce 5 0 ∷ []) ∷ edge 18 1 3 4 (reduce 3 0 ∷ reduce 5 0 ∷ []) ∷ edge 17 1 3 19 (reduce 3 0
-      ∷ reduce 5 0 ∷ []) ∷ edge 19 1 2 4 (reduce 5 0 ∷ []) ∷ edge 19 1 3 4 (reduce 3 0 ∷ reduce 5 0 ∷ [])
-      ∷ edge 11 1 2 20 (reduce 5 0 ∷ []) ∷ edge 20 1 2 4 (reduce 3 2 ∷ reduce 5 0 ∷ []) ∷ edge 20 1 3 4 (reduce 3 0
-      ∷ reduce 3 2 ∷ reduce 5 0 ∷ []) ∷ edge 11 1 3 21 (reduce 3 0 ∷ reduce 5 0 ∷ []) ∷ edge 21 1 2 4 (reduce 3 2
-      ∷ reduce 5 0 ∷ []) ∷ edge 21 1 3 4 (reduce 3 0 ∷ reduce 3 2 ∷ reduce 5 0 ∷ []) ∷ edge 9 1 2 22 []
-      ∷ edge 22 1 2 4 (reduce 5 0 ∷ []) ∷ edge 22 1 3 4 (reduce 3 0 ∷ reduce 5 0 ∷ []) ∷ edge 9 1 3 23 (reduce 3 0 ∷ [])
-      ∷ edge 23 1 2 4 (reduce 5 0 ∷ []) ∷ edge 23 1 3 4 (reduce 3 0 ∷ reduce 5 0 ∷ []) ∷ [];
+  edges = edge 0 0 5 3 [] ∷ edge 0 0 7 6 [] ∷ edge 0 0 10 1 [] ∷ edge 0 0 11 2 [] ∷ edge 3 0 7 9 [] ∷ edge 3 1 2 4 []
+      ∷ edge 3 1 3 4 (reduce 3 0 ∷ []) ∷ edge 4 0 6 5 [] ∷ edge 6 0 7 13 [] ∷ edge 6 1 2 7 []
+      ∷ edge 6 1 3 7 (reduce 3 0 ∷ []) ∷ edge 7 1 2 8 [] ∷ edge 7 1 3 8 (reduce 3 0 ∷ []) ∷ edge 9 0 7 10 []
+      ∷ edge 9 1 2 22 [] ∷ edge 9 1 3 23 (reduce 3 0 ∷ []) ∷ edge 10 0 10 4 (reduce 7 0 ∷ []) ∷ edge 10 1 2 17 []
+      ∷ edge 10 1 3 11 [] ∷ edge 11 0 6 12 [] ∷ edge 11 1 2 20 (reduce 5 0 ∷ [])
+      ∷ edge 11 1 3 21 (reduce 3 0 ∷ reduce 5 0 ∷ []) ∷ edge 13 0 10 14 [] ∷ edge 13 1 2 15 []
+      ∷ edge 13 1 3 16 (reduce 3 0 ∷ []) ∷ edge 15 1 2 7 (reduce 5 0 ∷ [])
+      ∷ edge 15 1 3 7 (reduce 3 0 ∷ reduce 5 0 ∷ []) ∷ edge 16 1 2 7 (reduce 5 0 ∷ [])
+      ∷ edge 16 1 3 7 (reduce 3 0 ∷ reduce 5 0 ∷ []) ∷ edge 17 1 2 18 (reduce 5 0 ∷ [])
+      ∷ edge 17 1 3 19 (reduce 3 0 ∷ reduce 5 0 ∷ []) ∷ edge 18 1 2 4 (reduce 5 0 ∷ [])
+      ∷ edge 18 1 3 4 (reduce 3 0 ∷ reduce 5 0 ∷ []) ∷ edge 19 1 2 4 (reduce 5 0 ∷ [])
+      ∷ edge 19 1 3 4 (reduce 3 0 ∷ reduce 5 0 ∷ []) ∷ edge 20 1 2 4 (reduce 3 2 ∷ reduce 5 0 ∷ [])
+      ∷ edge 20 1 3 4 (reduce 3 0 ∷ reduce 3 2 ∷ reduce 5 0 ∷ []) ∷ edge 21 1 2 4 (reduce 3 2 ∷ reduce 5 0 ∷ [])
+      ∷ edge 21 1 3 4 (reduce 3 0 ∷ reduce 3 2 ∷ reduce 5 0 ∷ []) ∷ edge 22 1 2 4 (reduce 5 0 ∷ [])
+      ∷ edge 22 1 3 4 (reduce 3 0 ∷ reduce 5 0 ∷ []) ∷ edge 23 1 2 4 (reduce 5 0 ∷ [])
+      ∷ edge 23 1 3 4 (reduce 3 0 ∷ reduce 5 0 ∷ []) ∷ [];
 })
 unfolding rules-e9 gardening
 e9 = refl
+
+-- clones go in key order, not in the order in which rows came: copied nodes get other numbers
+unfoldable rules-e10 : List Rule
+rules-e10 = rule 2 (con 10 ∷ slot 3 ∷ slot 2 ∷ []) ∷ rule 3 (con 10 ∷ con 10 ∷ con 10 ∷ []) ∷ rule 3 (slot 2 ∷ []) ∷ []
+
+e10 : build wide rules-e10 (theCommands (2 ∷ 1 ∷ 2 ∷ 2 ∷ 0 ∷ 10 ∷ 0 ∷ 10 ∷ 0 ∷ 10 ∷ 1 ∷ 3 ∷ [])) ≡ ok (record {
+  nodes = 0 ∷ 0 ∷ 0 ∷ 1 ∷ 0 ∷ 2 ∷ 0 ∷ 0 ∷ [];
+  edges = edge 0 0 10 1 [] ∷ edge 1 0 10 4 [] ∷ edge 1 1 2 2 (reduce 3 0 ∷ []) ∷ edge 1 1 3 2 [] ∷ edge 2 1 2 3 []
+      ∷ edge 4 0 10 5 [] ∷ edge 4 1 2 6 (reduce 3 0 ∷ []) ∷ edge 4 1 3 7 [] ∷ edge 6 1 2 2 (reduce 1 0 ∷ [])
+      ∷ edge 7 1 2 2 (reduce 1 0 ∷ []) ∷ [];
+})
+unfolding rules-e10 gardening
+e10 = refl
+
+-- and a path that reads what it writes comes to another tree
+unfoldable rules-e11 : List Rule
+rules-e11 = rule 2 (slot 3 ∷ slot 3 ∷ []) ∷ rule 2 (con 10 ∷ slot 3 ∷ slot 3 ∷ slot 2 ∷ []) ∷ rule 3 (slot 2 ∷ []) ∷ []
+
+e11 : build wide rules-e11 (theCommands (2 ∷ 1 ∷ 2 ∷ 2 ∷ 0 ∷ 10 ∷ 1 ∷ 2 ∷ 0 ∷ 10 ∷ 1 ∷ 3 ∷ [])) ≡ ok (record {
+  nodes = 0 ∷ 0 ∷ 1 ∷ 0 ∷ 0 ∷ 0 ∷ 2 ∷ [];
+  edges = edge 0 0 10 3 [] ∷ edge 0 1 2 1 (reduce 3 0 ∷ []) ∷ edge 0 1 3 1 [] ∷ edge 1 1 2 2 (reduce 3 0 ∷ [])
+      ∷ edge 1 1 3 2 [] ∷ edge 3 1 2 4 (reduce 3 0 ∷ []) ∷ edge 3 1 3 4 [] ∷ edge 4 1 2 5 (reduce 3 0 ∷ [])
+      ∷ edge 4 1 3 5 [] ∷ edge 5 1 2 6 [] ∷ edge 5 1 3 5 (reduce 3 1 ∷ reduce 1 1 ∷ []) ∷ [];
+})
+unfolding rules-e11 gardening
+e11 = refl
+
+-- so that a statement can be accepted in one order and refused in the other: in the order of coming node 9 has no row for c10
+unfoldable rules-e12 : List Rule
+rules-e12 = rule 3 (con 12 ∷ []) ∷ rule 2 (con 10 ∷ slot 3 ∷ con 11 ∷ []) ∷ rule 3 (con 11 ∷ []) ∷ rule 3 (con 10 ∷ slot 3 ∷ con 12 ∷ con 10 ∷ []) ∷ rule 3 (con 10 ∷ con 10 ∷ slot 3 ∷ slot 2 ∷ []) ∷ rule 2 (con 10 ∷ slot 2 ∷ con 10 ∷ []) ∷ []
+
+e12 : build wide rules-e12 (theCommands (1 ∷ 2 ∷ 2 ∷ 0 ∷ 10 ∷ 0 ∷ 10 ∷ 0 ∷ 10 ∷ 1 ∷ 3 ∷ 1 ∷ 2 ∷ 2 ∷ 0 ∷ 10 ∷ 0 ∷ 10 ∷ 0 ∷ 10 ∷ 1 ∷ 2 ∷ [])) ≡ ok (record {
+  nodes = 0 ∷ 1 ∷ 0 ∷ 0 ∷ 2 ∷ 3 ∷ 0 ∷ 4 ∷ 0 ∷ 0 ∷ 5 ∷ 0 ∷ 6 ∷ 0 ∷ 0 ∷ [];
+  edges = edge 0 0 10 2 [] ∷ edge 0 0 11 5 [] ∷ edge 0 0 12 1 [] ∷ edge 2 0 10 8 [] ∷ edge 2 1 2 11 []
+      ∷ edge 2 1 3 3 [] ∷ edge 3 0 10 12 (reduce 6 0 ∷ []) ∷ edge 3 0 11 4 [] ∷ edge 3 0 12 6 [] ∷ edge 6 0 10 7 []
+      ∷ edge 8 1 2 13 [] ∷ edge 8 1 3 9 [] ∷ edge 9 0 10 11 (reduce 6 0 ∷ reduce 6 0 ∷ [])
+      ∷ edge 9 0 11 3 (reduce 2 0 ∷ []) ∷ edge 9 0 12 14 [] ∷ edge 9 1 2 10 [] ∷ edge 11 0 10 12 []
+      ∷ edge 13 0 10 3 (reduce 6 0 ∷ []) ∷ edge 14 0 10 3 (reduce 4 0 ∷ []) ∷ [];
+})
+unfolding rules-e12 gardening
+e12 = refl
 
 -- ---- numbers
 

@@ -1,97 +1,115 @@
--- The rows of a node that stood, from a place on; and rows that stay as they are when others are appended.
-use mathlib.Core.Path.{_≡_, refl, sym, _∙_}
+-- The rows that stood when a copy began: they stay where younger rows are put in; and those of one node, one after another.
+use mathlib.Core.Path.{_≡_, refl, _∙_}
 use mathlib.Core.Bool.{Bool, true, false, _&&_}
 use mathlib.Core.List.{List, [], _∷_, _++_}
-use Prim.Native.Nat.{ℕ, _+_, _*_, _-_, _/_, _≤_, _<_}
+use Prim.Native.Nat.{ℕ, zero, suc, _≤_, _<_}
+use native.Mathlib.Nat.{not-suc-le-zero, le-of-suc-le-suc}
 use native.Mathlib.Omega.{arith}
 use lib.Dec.{eqb, ltb}
-use lib.ListN.{length, take, drop, length-take, drop-of-length-le}
-use lib.Seq.{ext-getD, getD-take, take-take, take-append-le}
-use borrow.Author.Tests.{ltb-true, ltb-false}
+use lib.ListN.{length, getD, take, drop}
+use borrow.Author.Tests.{lt-ltb, ne-eqb, ltb-true, ltb-false}
 use Rattle.words.specs.Outcome.{pick}
-use Rattle.words.specs.laws.Tests.{by-test}
-use Rattle.rows.specs.Rows.{Edge, edgesOf}
-use Rattle.rows.specs.laws.Lookup.{edges-count, edge-at, row-within}
-use Rattle.tree.specs.Code.{edgesIn}
-use Rattle.garden.specs.Garden.{rowsOfKind, standing}
-use Rattle.garden.specs.Code.{rowOfPlace, kindOfPlace, restFrom}
+use Rattle.rules.specs.laws.Every.{All, all-map}
+use Rattle.rows.specs.Rows.{Edge, edgeOf, edgesFrom, rising, leaving}
+use Rattle.rows.specs.Code.{placeOf}
+use Rattle.rows.specs.laws.Order.{from-below, from-above, from-rises, rising-rest, place-first}
+use Rattle.tree.specs.Code.{Aged}
+use Rattle.garden.specs.Code.{older, stoodFrom}
 
--- ---- the first rows of a table
+-- ---- rows by age
 
-abbrev blank : Edge
-blank = record { from = 0; kind = 0; sym = 0; to = 0; reduces = [] }
+-- a younger row is put in
+pub older-put : (k i : ℕ) (row : List ℕ) (rows : List (List ℕ)) → ltb (getD row 15 0) k ≡ false → older k (take i rows ++ row ∷ drop i rows) ≡ older k rows
+unfolding older
+older-put k zero row rows h = rw h
+older-put k (suc i) row [] h = rw h
+older-put k (suc i) row (r ∷ rows) h = rw (older-put k i row rows h)
 
-edges-first : (k : ℕ) (es : List ℕ) → edgesIn k es ≡ take k (edgesOf es)
-unfolding edgesIn
-edges-first k es =
-    let ws = take (16 * k) es in
-    let n : length (edgesOf ws) ≡ length (take k (edgesOf es)) =
-    rw (edges-count ws, length-take (16 * k) es, length-take k (edgesOf es), edges-count es) (omega arith) in
-    ext-getD blank (edgesOf ws) (take k (edgesOf es)) n λ i h.
-    let a : i < length ws / 16 = omega (arith, edges-count ws) in
-    let w = length-take (16 * k) es in
-    let b : i < k = omega arith in
-    let m : i < length es / 16 = omega arith in
-    rw (edge-at ws i blank a, row-within es k i b, getD-take k (edgesOf es) i blank b, edge-at es i blank m)
+pub older-all : (k : ℕ) (rows : List (List ℕ)) → All (Aged k) rows → older k rows ≡ rows
+unfolding older
+older-all k [] a = refl
+older-all k (row ∷ rows) a = rw (lt-ltb (getD row 15 0) k (a .0), older-all k rows (a .1))
 
--- the first k of the first n rows
-first-rows : (k n : ℕ) (es : List ℕ) → k ≤ n → take k (edgesIn n es) ≡ edgesIn k es
-first-rows k n es h = rw (edges-first n es, edges-first k es) (take-take k n (edgesOf es) h)
+pub older-older : (k m : ℕ) (rows : List (List ℕ)) → k ≤ m → older k (older m rows) ≡ older k rows
+unfolding older
+older-older k m [] h = refl
+older-older k m (row ∷ rows) h = by (ltb (getD row 15 0) m) (ltb (getD row 15 0) k) refl refl (older-older k m rows h)
+  where
+    by : (b d : Bool) → ltb (getD row 15 0) m ≡ b → ltb (getD row 15 0) k ≡ d → older k (older m rows) ≡ older k rows
+        → older k (pick b (row ∷ older m rows) (older m rows)) ≡ pick d (row ∷ older k rows) (older k rows)
+    by true d t u f = rw (u, f)
+    by false true t u f = absurd (omega (arith, h, ltb-false (getD row 15 0) m t, ltb-true (getD row 15 0) k u))
+    by false false t u f = f
 
--- rows that stood stay when others are appended
-pub rows-kept : (k c d : ℕ) (es es′ : List ℕ) (more : List Edge) → k ≤ c → c ≤ d → k ≤ length (edgesIn c es) → edgesIn d es′ ≡ edgesIn c es ++ more
-    → edgesIn k es′ ≡ edgesIn k es
-rows-kept k c d es es′ more h i l e =
-    sym (first-rows k d es′ (omega arith)) ∙ rw e (take-append-le k (edgesIn c es) more l) ∙ first-rows k c es h
+-- ---- and of one node
 
--- ---- the rows of a node from a place on
+and-false : (b : Bool) → b && false ≡ false
+and-false true = refl
+and-false false = refl
 
--- the row of a place
-pub row-of-place : (k p : ℕ) → p < 2 * k → rowOfPlace k p < k
-row-of-place k p h = by-test (λ i. i < k) (ltb p k) (λ t. ltb-true p k t) λ t. omega (arith, ltb-false p k t)
-
--- from the first place on, all rows that stand
-pub rest-all : (n : ℕ) (es : List Edge) → restFrom n 0 es ≡ standing n es
-unfolding restFrom standing
-rest-all n es = let e : 0 - length es ≡ 0 = omega arith in rw e
-
-pub rest-none : (n p : ℕ) (es : List Edge) → 2 * length es ≤ p → restFrom n p es ≡ []
-unfolding restFrom rowsOfKind
-rest-none n p es h = rw (drop-of-length-le es {i = p} (omega arith), drop-of-length-le es {i = p - length es} (omega arith))
-
-module _ (n : ℕ) (d : Edge) where
-  -- the first of some rows
-  kind-step : (k : ℕ) (es : List Edge) → rowsOfKind n k (d ∷ es) ≡ pick (eqb (d .from) n && eqb (d .kind) k) (d ∷ rowsOfKind n k es) (rowsOfKind n k es)
-  unfolding rowsOfKind
-  kind-step k es = by (eqb (d .from) n && eqb (d .kind) k)
+module _ (n k : ℕ) where
+  pub stood-older : (m : ℕ) (rows : List (List ℕ)) → k ≤ m → stoodFrom n k (older m rows) ≡ stoodFrom n k rows
+  unfolding older stoodFrom
+  stood-older m [] h = refl
+  stood-older m (row ∷ rows) h = by (ltb (getD row 15 0) m) (ltb (getD row 15 0) k) refl refl (stood-older m rows h)
     where
-      by : (b : Bool) → elim b [ true ↦ d ∷ rowsOfKind n k es | false ↦ rowsOfKind n k es ] ≡ pick b (d ∷ rowsOfKind n k es) (rowsOfKind n k es)
-      by true = refl
-      by false = refl
+      by : (b d : Bool) → ltb (getD row 15 0) m ≡ b → ltb (getD row 15 0) k ≡ d → stoodFrom n k (older m rows) ≡ stoodFrom n k rows
+          → stoodFrom n k (pick b (row ∷ older m rows) (older m rows)) ≡ pick (d && eqb (edgeOf row .from) n) (edgeOf row ∷ stoodFrom n k rows) (stoodFrom n k rows)
+      by true d t u f = rw (u, f)
+      by false true t u f = absurd (omega (arith, h, ltb-false (getD row 15 0) m t, ltb-true (getD row 15 0) k u))
+      by false false t u f = f
 
-  kind-none : (k : ℕ) → rowsOfKind n k [] ≡ []
-  unfolding rowsOfKind
-  kind-none k = refl
+  -- all rows, if they stood
+  pub stood-all : (rows : List (List ℕ)) → All (Aged k) rows → stoodFrom n k rows ≡ leaving n (edgesFrom rows)
+  unfolding stoodFrom leaving edgesFrom
+  stood-all [] a = refl
+  stood-all (row ∷ rows) a = rw (lt-ltb (getD row 15 0) k (a .0), stood-all rows (a .1))
 
-  pick-more : (b : Bool) (es more : List Edge) → pick b (d ∷ es) es ++ more ≡ pick b (d ∷ es ++ more) (es ++ more)
-  pick-more true es more = refl
-  pick-more false es more = refl
+  pub stood-length : (rows : List (List ℕ)) → length (stoodFrom n k rows) ≤ length rows
+  unfolding stoodFrom
+  stood-length [] = omega arith
+  stood-length (row ∷ rows) = by (ltb (getD row 15 0) k && eqb (edgeOf row .from) n) (stood-length rows)
+    where
+      by : (b : Bool) → length (stoodFrom n k rows) ≤ length rows → length (pick b (edgeOf row ∷ stoodFrom n k rows) (stoodFrom n k rows)) ≤ suc (length rows)
+      by true f = omega arith
+      by false f = omega arith
 
-  module _ (p : ℕ) (es : List Edge) where
-    -- d stands at this place, and is of the node or not
-    pub rest-step : p < 2 * length es → drop (rowOfPlace (length es) p) es ≡ d ∷ drop (rowOfPlace (length es) p + 1) es
-        → restFrom n p es ≡ pick (eqb (d .from) n && eqb (d .kind) (kindOfPlace (length es) p)) (d ∷ restFrom n (p + 1) es) (restFrom n (p + 1) es)
-    unfolding restFrom
-    rest-step h e = by (ltb p (length es)) refl e
-      where
-        by : (b : Bool) → ltb p (length es) ≡ b → drop (pick b p (p - length es)) es ≡ d ∷ drop (pick b p (p - length es) + 1) es
-            → restFrom n p es ≡ pick (eqb (d .from) n && eqb (d .kind) (pick b 0 1)) (d ∷ restFrom n (p + 1) es) (restFrom n (p + 1) es)
-        by true t e =
-            let l = ltb-true p (length es) t in
-            let a : p - length es ≡ 0 = omega arith in
-            let b : p + 1 - length es ≡ 0 = omega arith in
-            rw (a, b, e, kind-step 0 (drop (p + 1) es)) (pick-more (eqb (d .from) n && eqb (d .kind) 0) (rowsOfKind n 0 (drop (p + 1) es)) (rowsOfKind n 1 es))
-        by false t e =
-            let l = ltb-false p (length es) t in
-            let a : p + 1 - length es ≡ p - length es + 1 = omega arith in
-            rw (drop-of-length-le es {i = p} l, drop-of-length-le es {i = p + 1} (omega arith), kind-none 0, a, e) (kind-step 1 (drop (p - length es + 1) es))
+  -- none before the place of the node's first key
+  pub stood-start : (rows : List (List ℕ)) → stoodFrom n k (drop (placeOf n 0 0 (edgesFrom rows)) rows) ≡ stoodFrom n k rows
+  unfolding placeOf edgesFrom stoodFrom
+  stood-start [] = refl
+  stood-start (row ∷ rows) = by (ltb (edgeOf row .from) n) refl (stood-start rows)
+    where
+      by : (b : Bool) → ltb (edgeOf row .from) n ≡ b → stoodFrom n k (drop (placeOf n 0 0 (edgesFrom rows)) rows) ≡ stoodFrom n k rows
+          → stoodFrom n k (drop (placeOf n 0 0 (edgesFrom (row ∷ rows))) (row ∷ rows)) ≡ stoodFrom n k (row ∷ rows)
+      by true t f =
+          let l = ltb-true (edgeOf row .from) n t in
+          rw (from-below n (edgeOf row) l, ne-eqb (edgeOf row .from) n (λ p. omega arith), and-false (ltb (getD row 15 0) k)) f
+      by false t f = rw (from-above n (edgeOf row) (ltb-false (edgeOf row .from) n t))
+
+  stood-none : (rows : List (List ℕ)) → All (λ d. n < d .from) (edgesFrom rows) → stoodFrom n k rows ≡ []
+  unfolding stoodFrom edgesFrom
+  stood-none [] a = refl
+  stood-none (row ∷ rows) a = rw (ne-eqb (edgeOf row .from) n (λ p. omega (arith, a .0)), and-false (ltb (getD row 15 0) k)) (stood-none rows (a .1))
+
+  -- and none from another node's row on, past that place
+  pub stood-past : (i : ℕ) (rows : List (List ℕ)) → rising (edgesFrom rows) ≡ true → placeOf n 0 0 (edgesFrom rows) ≤ i → (edgeOf (getD rows i []) .from ≡ n → ⊥)
+      → stoodFrom n k (drop i rows) ≡ []
+  unfolding placeOf edgesFrom stoodFrom
+  stood-past zero [] r p f = refl
+  stood-past (suc i) [] r p f = refl
+  stood-past zero (row ∷ rows) r p f = by (ltb (edgeOf row .from) n) refl
+    where
+      by : (b : Bool) → ltb (edgeOf row .from) n ≡ b → stoodFrom n k (row ∷ rows) ≡ []
+      by true t = absurd (not-suc-le-zero (rw (from-below n (edgeOf row) (ltb-true (edgeOf row .from) n t)) at p))
+      by false t =
+          let l : n < edgeOf row .from = omega (arith, ltb-false (edgeOf row .from) n t, f) in
+          stood-none (row ∷ rows) (l, all-map (λ d. edgeOf row .from ≤ d .from) (λ d. n < d .from) (λ d g. omega arith) (edgesFrom rows) (from-rises (edgeOf row) (edgesFrom rows) r))
+  stood-past (suc i) (row ∷ rows) r p f = by (ltb (edgeOf row .from) n) refl (λ q. stood-past i rows (rising-rest (edgeOf row) (edgesFrom rows) r) q f)
+    where
+      by : (b : Bool) → ltb (edgeOf row .from) n ≡ b → (placeOf n 0 0 (edgesFrom rows) ≤ i → stoodFrom n k (drop i rows) ≡ []) → stoodFrom n k (drop i rows) ≡ []
+      by true t h = h (le-of-suc-le-suc (rw (from-below n (edgeOf row) (ltb-true (edgeOf row .from) n t)) at p))
+      by false t h =
+          let l = ltb-false (edgeOf row .from) n t in
+          let z = place-first n (edgesFrom rows) (all-map (λ d. edgeOf row .from ≤ d .from) (λ d. n ≤ d .from) (λ d g. omega arith) (edgesFrom rows) (from-rises (edgeOf row) (edgesFrom rows) r)) in
+          h (omega (arith, z))

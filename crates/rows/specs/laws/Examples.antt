@@ -5,7 +5,7 @@ use mathlib.Core.List.{List, [], _∷_, _++_}
 use mathlib.Core.Option.{none, some}
 use Prim.Native.Nat.{ℕ, zero, suc}
 use Rattle.words.specs.Lent.{zeros}
-use Rattle.rows.specs.Rows.{Reduce, Edge, edgeOf, edgesOf, rowWords, edgeWords, find, bare, withReduce, tablesGood, tabling}
+use Rattle.rows.specs.Rows.{Reduce, Edge, edgeOf, edgesOf, rowWords, edgeWords, rising, insertEdge, find, leaving, bare, withReduce, tablesGood, tabling}
 use Rattle.rows.specs.Sheet.{edge, five, nodes-S, edges-S, tables}
 
 -- ---- set S
@@ -36,7 +36,7 @@ edge-of : edgeOf (3 ∷ 1 ∷ 4 ∷ 7 ∷ 2 ∷ 5 ∷ 0 ∷ 6 ∷ 1 ∷ 0 ∷ 0 
 unfolding tabling
 edge-of = refl
 
--- ---- the look-up: the first of two rows with one key, and all three parts of the key
+-- ---- the look-up: all three parts of the key, and the first of two rows where a table is bad
 
 abbrev twice : List Edge
 twice = edge 0 0 10 1 [] ∷ edge 0 1 10 2 [] ∷ edge 0 0 11 3 [] ∷ edge 4 0 10 5 [] ∷ edge 0 0 10 6 [] ∷ []
@@ -65,6 +65,37 @@ missing = refl
 left : (bare twice 4 ≡ false) × (bare twice 1 ≡ true)
 unfolding tabling
 left = (refl, refl)
+
+-- ---- the order: from, then kind, then symbol
+
+abbrev ordered : List Edge
+ordered = edge 0 0 10 1 [] ∷ edge 0 0 11 2 [] ∷ edge 0 1 3 3 [] ∷ edge 4 0 1 5 [] ∷ []
+
+rises : rising ordered ≡ true
+unfolding tabling
+rises = refl
+
+-- the last place, the first one, and two between
+put-last : insertEdge (edge 4 0 2 6 []) ordered ≡ ordered ++ edge 4 0 2 6 [] ∷ []
+unfolding tabling
+put-last = refl
+
+put-first : insertEdge (edge 0 0 9 6 []) ordered ≡ edge 0 0 9 6 [] ∷ ordered
+unfolding tabling
+put-first = refl
+
+put-by-kind : insertEdge (edge 0 1 2 6 []) ordered ≡ edge 0 0 10 1 [] ∷ edge 0 0 11 2 [] ∷ edge 0 1 2 6 [] ∷ edge 0 1 3 3 [] ∷ edge 4 0 1 5 [] ∷ []
+unfolding tabling
+put-by-kind = refl
+
+put-by-from : insertEdge (edge 3 1 9 6 []) ordered ≡ edge 0 0 10 1 [] ∷ edge 0 0 11 2 [] ∷ edge 0 1 3 3 [] ∷ edge 3 1 9 6 [] ∷ edge 4 0 1 5 [] ∷ []
+unfolding tabling
+put-by-from = refl
+
+-- the rows of node 0 stand together
+of-root : leaving 0 ordered ≡ edge 0 0 10 1 [] ∷ edge 0 0 11 2 [] ∷ edge 0 1 3 3 [] ∷ []
+unfolding tabling
+of-root = refl
 
 -- ---- reduce lists
 
@@ -116,6 +147,10 @@ good-tables =
     ∷ judge three (plain 0 0 10 2)
     ∷ judge three (plain 1 1 3 2)
     ∷ judge three (plain 0 1 1 1 ++ plain 1 0 65535 1)
+    -- rows that rise by symbol, by kind and by from
+    ∷ judge three (plain 0 0 10 1 ++ plain 0 0 11 1)
+    ∷ judge three (plain 0 0 11 1 ++ plain 0 1 10 1)
+    ∷ judge three (plain 0 1 11 1 ++ plain 1 0 10 1)
     -- one reduce with the greatest offset, and five
     ∷ judge three (paired 1 (2 ∷ 255 ∷ zeros 8))
     ∷ judge three (paired 5 (1 ∷ 0 ∷ 2 ∷ 1 ∷ 1 ∷ 2 ∷ 2 ∷ 3 ∷ 1 ∷ 255 ∷ []))
@@ -157,7 +192,14 @@ bad-tables =
     -- the last word
     ∷ judge three (row 0 0 10 2 0 (zeros 10) 1)
     -- a second row
-    ∷ judge three (plain 0 0 10 2 ++ plain 0 0 0 1)
+    ∷ judge three (plain 0 0 10 2 ++ plain 0 0 65536 1)
+    -- a row twice, two rows with one key, rows that fall by symbol, by kind and by from, and a third row
+    ∷ judge three (plain 0 0 10 1 ++ plain 0 0 10 1)
+    ∷ judge three (plain 0 0 10 1 ++ plain 0 0 10 2)
+    ∷ judge three (plain 0 0 11 1 ++ plain 0 0 10 1)
+    ∷ judge three (plain 0 1 10 1 ++ plain 0 0 11 1)
+    ∷ judge three (plain 1 0 10 1 ++ plain 0 1 11 1)
+    ∷ judge three (plain 0 0 10 1 ++ plain 0 0 12 1 ++ plain 0 0 11 1)
     ∷ []
 
 good-pass : every good-tables ≡ true
@@ -174,10 +216,11 @@ most-nodes : (judge (zeros 8192) [] ≡ true) × (judge (zeros 8193) [] ≡ fals
 unfolding tabling
 most-nodes = (refl, refl)
 
-unfoldable repeated : ℕ → List ℕ → List ℕ
-repeated zero ws = []
-repeated (suc n) ws = ws ++ repeated n ws
+-- n rows that rise, from symbol s on
+unfoldable climbing : ℕ → ℕ → List ℕ
+climbing zero s = []
+climbing (suc n) s = plain 0 0 s 1 ++ climbing n (suc s)
 
-most-edges : judge three (repeated 16385 (plain 0 0 10 1)) ≡ false
-unfolding tabling repeated
+most-edges : judge three (climbing 16385 1) ≡ false
+unfolding tabling climbing
 most-edges = refl

@@ -15,7 +15,8 @@ use Rattle.words.specs.Limits.{mostNodes, mostEdges, rowWidth, mostReduces, mos
 use Rattle.words.specs.laws.Tests.{and-l, and-r}
 use Rattle.rules.specs.Rules.{symbol}
 use Rattle.rules.specs.laws.Every.{All, chain-at}
-use Rattle.rows.specs.Rows.{Reduce, Edge, reducesOf, edgeOf, rowsOf, edgesFrom, edgesOf, keyed, find, goodNodes, goodPair, goodPairs, rootToLeaf, goodEnds, goodRow, goodRows, nodesGood, edgesGood, tablesGood}
+use Rattle.rows.specs.Rows.{Reduce, Edge, reducesOf, edgeOf, rowsOf, edgesFrom, edgesOf, rising, keyed, find, goodNodes, goodPair, goodPairs, rootToLeaf, goodEnds, goodRow, goodRows, nodesGood, edgesGood, tablesGood}
+use Rattle.rows.specs.laws.Order.{keyed-is}
 
 pub record ReduceOk (rules : ℕ) (d : Reduce) : Type 0 where
   pub rule-low : 1 ≤ d .rule
@@ -39,6 +40,7 @@ pub record Fair (rules : ℕ) (ns : List ℕ) (es : List Edge) : Type 0 where
   pub root : getD ns 0 0 ≡ 0
   pub words : All (λ w. w ≤ rules) ns
   pub rows : All (RowOk rules ns) es
+  pub order : rising es ≡ true
 
 -- ---- tests of a row
 
@@ -120,9 +122,15 @@ pub tables-fair : (rules : ℕ) (ns ws : List ℕ) → tablesGood rules ns ws �
 unfolding tablesGood nodesGood edgesGood
 tables-fair rules ns ws g =
     let n = chain-at (not (ltb (length ns) 1)) (not (ltb mostNodes (length ns)) ∷ eqb (getD ns 0 0) 0 ∷ goodNodes rules ns ∷ []) (and-l (nodesGood rules ns) (edgesGood rules ns ws) g) in
-    let e = chain-at (eqb (length ws % rowWidth) 0) (not (ltb mostEdges (length ws / rowWidth)) ∷ goodRows rules ns (rowsOf ws) ∷ [])
+    let e = chain-at (eqb (length ws % rowWidth) 0) (not (ltb mostEdges (length ws / rowWidth)) ∷ goodRows rules ns (rowsOf ws) ∷ rising (edgesOf ws) ∷ [])
     (and-r (nodesGood rules ns) (edgesGood rules ns ws) g) in
-    record { some-node = count-below 1 (length ns) (n 0); root = eqb-true _ _ (n 2); words = nodes-ok rules ns (n 3); rows = rows-ok rules ns (rowsOf ws) (e 2) }
+    record {
+      some-node = count-below 1 (length ns) (n 0);
+      root = eqb-true _ _ (n 2);
+      words = nodes-ok rules ns (n 3);
+      rows = rows-ok rules ns (rowsOf ws) (e 2);
+      order = e 3;
+    }
 
 -- ---- what a look-up finds
 
@@ -131,10 +139,7 @@ Found P n k s none = Unit {0}
 Found P n k s (some e) = P e × (e .from ≡ n) × (e .kind ≡ k) × (e .sym ≡ s)
 
 keyed-found : (P : Edge → Type 0) (n k s : ℕ) (e : Edge) → P e → keyed n k s e ≡ true → Found P n k s (some e)
-unfolding keyed
-keyed-found P n k s e p h =
-    let c = chain-at (eqb (e .from) n) (eqb (e .kind) k ∷ eqb (e .sym) s ∷ []) h in
-    (p, eqb-true _ _ (c 0), eqb-true _ _ (c 1), eqb-true _ _ (c 2))
+keyed-found P n k s e p h = let i = keyed-is n k s e h in (p, i .0, i .1, i .2)
 
 first-found : (P : Edge → Type 0) (n k s : ℕ) (e : Edge) (b : Bool) (o : Option Edge) → (b ≡ true → Found P n k s (some e)) → Found P n k s o
     → Found P n k s (elim b [ true ↦ some e | false ↦ o ])

@@ -10,7 +10,7 @@ use lib.ListN.{length, getD, drop, length-append}
 use lib.Seq.{take-at, drop-at, drop-drop, getD-drop}
 use borrow.Author.Tests.{lt-ltb, le-ltb, le-leb, lt-leb, eq-eqb, ne-eqb, eqb-true}
 use Rattle.words.specs.Limits.{mostNodes, mostEdges, rowWidth, mostReduces, mostOffset}
-use Rattle.rules.specs.laws.Every.{All}
+use Rattle.rules.specs.laws.Every.{All, all-map}
 use Rattle.rows.specs.Rows.{Reduce, Edge, reducesOf, edgeOf, rowsFrom, rowsOf, edgesFrom, edgesOf, reduceWords, rowWords, edgeWords, goodNodes, goodPair, goodPairs, rootToLeaf, goodEnds, goodRow, goodRows, nodesGood, edgesGood, tablesGood}
 use Rattle.rows.specs.laws.Fair.{ReduceOk, RowOk, Fair}
 
@@ -143,6 +143,9 @@ unfolding goodNodes
 nodes-pass rules [] a = refl
 nodes-pass rules (w ∷ ns) a = rw (le-leb w rules (a .0)) (nodes-pass rules ns (a .1))
 
+all-short : (rules : ℕ) (ns : List ℕ) (es : List Edge) → All (RowOk rules ns) es → All Short es
+all-short rules ns es a = all-map (RowOk rules ns) Short (λ e r. r .few) es a
+
 -- fair tables within the limits pass, written as words
 pub fair-pass : (rules : ℕ) (ns : List ℕ) (es : List Edge) → length ns ≤ mostNodes → length es ≤ mostEdges → Fair rules ns es → tablesGood rules ns (edgeWords es) ≡ true
 unfolding tablesGood nodesGood edgesGood
@@ -158,4 +161,6 @@ fair-pass rules ns es n m f =
       mul-div-right (length es) {m = rowWidth} (omega arith),
       le-ltb mostEdges (length es) m,
       rows-pass rules ns es (f .rows),
+      rows-back es (all-short rules ns es (f .rows)),
+      f .order,
     )

@@ -17,8 +17,10 @@ use Rattle.words.specs.laws.Tests.{and-r}
 use Rattle.rules.specs.Rules.{Item, con, slot, Rule, theRules, source, symbol, rulesGood}
 use Rattle.rules.specs.laws.Every.{All, all-append, all-map}
 use Rattle.rules.specs.laws.Proper.{ItemOk, RuleOk, Proper, rules-proper}
-use Rattle.rows.specs.Rows.{Reduce, Edge, edgeWords, withReduce, tablesGood}
+use Rattle.rows.specs.Rows.{Reduce, Edge, edgeWords, rising, insertEdge, find, leaving, withReduce, tablesGood}
 use Rattle.rows.specs.laws.Fair.{ReduceOk, RowOk, Fair, Found, find-found}
+use Rattle.rows.specs.laws.Insert.{insert-all, insert-length, insert-rises}
+use Rattle.rows.specs.laws.Order.{all-leaving}
 use Rattle.rows.specs.laws.Words.{fair-pass}
 use Rattle.tree.specs.Grow.{Grown, Room, kind, sym, branchAt, addEdge, addNode, placeLast, placeInner, place, placeRule, placeRules, addConverted, converted, offsetOn, copyRow, copyBranches, apart, convertTo, convertAt, convertNodes, convert, convertAll, rootAlone, plant, grow}
 
@@ -92,22 +94,23 @@ source-symbol (slot t ∷ i ∷ b) u a e = cc
 -- ---- rows and nodes are added
 
 abbrev plus : Grown → Edge → Grown
-plus g e = record { nodes = g .nodes; edges = g .edges ++ e ∷ [] }
+plus g e = record { nodes = g .nodes; edges = insertEdge e (g .edges) }
 
 module _ (rules : ℕ) (z : Room) where
-  -- an edge that there is room for
-  pub edge-keeps : (P : Grown → Type 0) (g : Grown) (e : Edge) → Inv rules z g → RowOk rules (g .nodes) e
+  -- an edge with a new key, if there is room for it
+  pub edge-keeps : (P : Grown → Type 0) (g : Grown) (e : Edge) → Inv rules z g → RowOk rules (g .nodes) e → find (g .edges) (e .from) (e .kind) (e .sym) ≡ none
       → (Inv rules z (plus g e) → P (plus g e)) → Keeps P (addEdge z g e)
   unfolding addEdge
-  edge-keeps P g e v r h = when-keeps P (ltb (length (g .edges)) (z .edges)) noEdge _ λ t. h (record {
+  edge-keeps P g e v r f h = when-keeps P (ltb (length (g .edges)) (z .edges)) noEdge _ λ t. h (record {
     fair = record {
       some-node = v .fair .some-node;
       root = v .fair .root;
       words = v .fair .words;
-      rows = all-append (RowOk rules (g .nodes)) (g .edges) (e ∷ []) (v .fair .rows) (r, tt);
+      rows = insert-all e (RowOk rules (g .nodes)) (g .edges) (v .fair .rows) r;
+      order = insert-rises e (g .edges) (v .fair .order) f;
     };
     nodes-in = v .nodes-in;
-    edges-in = simp length-append (omega (arith, ltb-true));
+    edges-in = omega (arith, insert-length e (g .edges), ltb-true (length (g .edges)) (z .edges) t);
   })
 
   pub node-inv : (g : Grown) (w : ℕ) → Inv rules z g → w ≤ rules → length (g .nodes) < z .nodes → Inv rules z (record { nodes = g .nodes ++ w ∷ []; edges = g .edges })
@@ -117,6 +120,7 @@ module _ (rules : ℕ) (z : Room) where
       root = List·getD-append (g .nodes) (w ∷ []) 0 0 (v .fair .some-node) ∙ v .fair .root;
       words = all-append (λ w. w ≤ rules) (g .nodes) (w ∷ []) (v .fair .words) (h, tt);
       rows = all-map (RowOk rules (g .nodes)) (RowOk rules (g .nodes ++ w ∷ [])) (row-grows rules (g .nodes) w) (g .edges) (v .fair .rows);
+      order = v .fair .order;
     };
     nodes-in = simp length-append (omega arith);
     edges-in = v .edges-in;
@@ -125,7 +129,8 @@ module _ (rules : ℕ) (z : Room) where
   abbrev Longer : ℕ → Grown → Type 0
   Longer n g = Inv rules z g × (n < length (g .nodes))
 
-  module _ (g : Grown) (n k s w : ℕ) (v : Inv rules z g) (h : n < length (g .nodes)) (b : getD (g .nodes) n 0 ≡ 0) (o : k ≤ 1) (y : symbol s ≡ true) (l : w ≤ rules) (d : n ≡ 0 → k ≡ 1 → w ≡ 0) where
+  module _ (g : Grown) (n k s w : ℕ) (v : Inv rules z g) (h : n < length (g .nodes)) (b : getD (g .nodes) n 0 ≡ 0) (o : k ≤ 1) (y : symbol s ≡ true) (l : w ≤ rules) (d : n ≡ 0 → k ≡ 1 → w ≡ 0)
+      (f : find (g .edges) n k s ≡ none) where
     node-keeps : Keeps (Longer (length (g .nodes))) (addNode z g n k s w)
     unfolding addNode
     node-keeps = bind-keeps (Longer (length (g .nodes))) _ noNode (length (g .nodes)) _ λ t.
@@ -142,6 +147,7 @@ module _ (rules : ℕ) (z : Room) where
           few = omega arith;
           reduces-ok = tt;
         })
+        f
         λ u. (u, simp length-append (omega arith))
 
   forget : (n : ℕ) (x : Res Fault Grown) → Keeps (Longer n) x → Keeps (Inv rules z) x
@@ -151,28 +157,28 @@ module _ (rules : ℕ) (z : Room) where
   -- ---- a body
 
   last-keeps : (r : ℕ) (g : Grown) (n : ℕ) (i : Item) (o : Option Edge) → Inv rules z g → n < length (g .nodes) → getD (g .nodes) n 0 ≡ 0 → ItemOk i → r ≤ rules
-      → (n ≡ 0 → source (i ∷ []) ≡ none) → Keeps (Inv rules z) (placeLast z r g n i o)
+      → (n ≡ 0 → source (i ∷ []) ≡ none) → find (g .edges) n (kind i) (sym i) ≡ o → Keeps (Inv rules z) (placeLast z r g n i o)
   unfolding placeLast
-  last-keeps r g n i (some e) v h b a l s = tt
-  last-keeps r g n i none v h b a l s =
-      forget (length (g .nodes)) (addNode z g n (kind i) (sym i) r) (node-keeps g n (kind i) (sym i) r v h b (kind-in i) (symbol-in i a) l λ p q. absurd (alone i (s p) q))
+  last-keeps r g n i (some e) v h b a l s f = tt
+  last-keeps r g n i none v h b a l s f =
+      forget (length (g .nodes)) (addNode z g n (kind i) (sym i) r) (node-keeps g n (kind i) (sym i) r v h b (kind-in i) (symbol-in i a) l (λ p q. absurd (alone i (s p) q)) f)
 
   inner-keeps : (g : Grown) (n : ℕ) (i : Item) (rest : Grown → ℕ → Res Fault Grown) (o : Option Edge) → Inv rules z g → n < length (g .nodes) → getD (g .nodes) n 0 ≡ 0 → ItemOk i
-      → Found (RowOk rules (g .nodes)) n (kind i) (sym i) o → ((g : Grown) (m : ℕ) → Inv rules z g → m < length (g .nodes) → m ≢ 0 → Keeps (Inv rules z) (rest g m))
+      → Found (RowOk rules (g .nodes)) n (kind i) (sym i) o → find (g .edges) n (kind i) (sym i) ≡ o → ((g : Grown) (m : ℕ) → Inv rules z g → m < length (g .nodes) → m ≢ 0 → Keeps (Inv rules z) (rest g m))
       → Keeps (Inv rules z) (placeInner z g n i rest o)
   unfolding placeInner
-  inner-keeps g n i rest (some e) v h b a d k = k g (e .to) v (d .0 .to-in) (d .0 .to-inner)
-  inner-keeps g n i rest none v h b a d k =
-      then-keeps (Inv rules z) (Longer (length (g .nodes))) _ _ (node-keeps g n (kind i) (sym i) 0 v h b (kind-in i) (symbol-in i a) (omega arith) λ p q. refl)
+  inner-keeps g n i rest (some e) v h b a d f k = k g (e .to) v (d .0 .to-in) (d .0 .to-inner)
+  inner-keeps g n i rest none v h b a d f k =
+      then-keeps (Inv rules z) (Longer (length (g .nodes))) _ _ (node-keeps g n (kind i) (sym i) 0 v h b (kind-in i) (symbol-in i a) (omega arith) (λ p q. refl) f)
       λ g′ l. k g′ (length (g .nodes)) (l .0) (l .1) λ e. omega (arith, v .fair .some-node)
 
   place-keeps : (r : ℕ) (b : List Item) (g : Grown) (n : ℕ) → r ≤ rules → All ItemOk b → Inv rules z g → n < length (g .nodes) → (n ≡ 0 → source b ≡ none)
       → Keeps (Inv rules z) (place z r b g n)
   unfolding place branchAt
   place-keeps r [] g n l a v h s = v
-  place-keeps r (i ∷ []) g n l a v h s = bind-keeps (Inv rules z) _ collides g _ λ t. last-keeps r g n i _ v h (eqb-true _ _ t) (a .0) l s
+  place-keeps r (i ∷ []) g n l a v h s = bind-keeps (Inv rules z) _ collides g _ λ t. last-keeps r g n i _ v h (eqb-true _ _ t) (a .0) l s refl
   place-keeps r (i ∷ j ∷ b) g n l a v h s = bind-keeps (Inv rules z) _ collides g _ λ t.
-      inner-keeps g n i _ _ v h (eqb-true _ _ t) (a .0) (find-found (RowOk rules (g .nodes)) (g .edges) n (kind i) (sym i) (v .fair .rows))
+      inner-keeps g n i _ _ v h (eqb-true _ _ t) (a .0) (find-found (RowOk rules (g .nodes)) (g .edges) n (kind i) (sym i) (v .fair .rows)) refl
       λ g n v h k. place-keeps r (j ∷ b) g n l (a .1) v h λ e. absurd (k e)
 
   rule-keeps : (r : ℕ) (q : Rule) (g : Grown) (o : Option ℕ) → source (q .body) ≡ o → r ≤ rules → RuleOk q → Inv rules z g → Keeps (Inv rules z) (placeRule z r q g o)
@@ -212,10 +218,10 @@ module _ (rules : ℕ) (z : Room) where
 
   module _ (ns : List ℕ) (c : ℕ) (lo : 1 ≤ c) (hi : c ≤ rules) where
     added-keeps : (g : Grown) (n s : ℕ) (e : Edge) (o : Option (List Reduce)) → Same ns g → RowOk rules ns e → Fitting o → n < length ns → getD ns n 0 ≡ 0 → symbol s ≡ true
-        → (n ≡ 0 → e .kind ≡ 1 → getD ns (e .to) 0 ≡ 0) → Keeps (Same ns) (addConverted z g n s e o)
+        → (n ≡ 0 → e .kind ≡ 1 → getD ns (e .to) 0 ≡ 0) → find (g .edges) n (e .kind) s ≡ none → Keeps (Same ns) (addConverted z g n s e o)
     unfolding addConverted
-    added-keeps g n s e none v r f h b y l = tt
-    added-keeps g n s e (some ds) v r f h b y l = edge-keeps (Same ns) g (record { from = n; kind = e .kind; sym = s; to = e .to; reduces = ds }) (v .0)
+    added-keeps g n s e none v r f h b y l k = tt
+    added-keeps g n s e (some ds) v r f h b y l k = edge-keeps (Same ns) g (record { from = n; kind = e .kind; sym = s; to = e .to; reduces = ds }) (v .0)
         (rw (v .1) (record {
           from-in = h;
           from-branch = b;
@@ -227,39 +233,40 @@ module _ (rules : ℕ) (z : Room) where
           few = f .0;
           reduces-ok = f .1;
         }))
+        k
         λ u. (u, v .1)
 
     converted-keeps : (o : ℕ) (g : Grown) (n s : ℕ) (e : Edge) → o ≤ 1 → Same ns g → RowOk rules ns e → n < length ns → getD ns n 0 ≡ 0 → symbol s ≡ true
-        → (n ≡ 0 → e .kind ≡ 1 → getD ns (e .to) 0 ≡ 0) → Keeps (Same ns) (converted z c o g n s e)
-    converted-keeps o g n s e k v r h b y l = added-keeps g n s e _ v r
-        (with-fitting (record { rule = c; offset = o }) (e .reduces) (record { rule-low = lo; rule-high = hi; offset-in = omega arith }) (r .reduces-ok)) h b y l
+        → (n ≡ 0 → e .kind ≡ 1 → getD ns (e .to) 0 ≡ 0) → find (g .edges) n (e .kind) s ≡ none → Keeps (Same ns) (converted z c o g n s e)
+    converted-keeps o g n s e k v r h b y l f = added-keeps g n s e _ v r
+        (with-fitting (record { rule = c; offset = o }) (e .reduces) (record { rule-low = lo; rule-high = hi; offset-in = omega arith }) (r .reduces-ok)) h b y l f
 
-    module _ (n m : ℕ) (h : m < length ns) (b : getD ns m 0 ≡ 0) (i : m ≢ 0) where
-      copyRow-keeps : (g : Grown) (e : Edge) (x : Bool) (o : Option Edge) → Same ns g → RowOk rules ns e → Keeps (Same ns) (copyRow z c g m e x o)
+    module _ (m : ℕ) (h : m < length ns) (b : getD ns m 0 ≡ 0) (i : m ≢ 0) where
+      copyRow-keeps : (g : Grown) (e : Edge) (o : Option Edge) → find (g .edges) m (e .kind) (e .sym) ≡ o → Same ns g → RowOk rules ns e → Keeps (Same ns) (copyRow z c g m e o)
       unfolding copyRow
-      copyRow-keeps g e false o v r = v
-      copyRow-keeps g e true (some d) v r = v
-      copyRow-keeps g e true none v r = converted-keeps (offsetOn (e .kind)) g m (e .sym) e (offset-small (e .kind)) v r h b (r .symbol-in) λ p. absurd (i p)
+      copyRow-keeps g e (some d) f v r = v
+      copyRow-keeps g e none f v r = converted-keeps (offsetOn (e .kind)) g m (e .sym) e (offset-small (e .kind)) v r h b (r .symbol-in) (λ p. absurd (i p)) f
 
-      copy-keeps : (es : List Edge) (g : Grown) → Same ns g → All (RowOk rules ns) es → Keeps (Same ns) (copyBranches z c n m es g)
+      copy-keeps : (es : List Edge) (g : Grown) → Same ns g → All (RowOk rules ns) es → Keeps (Same ns) (copyBranches z c m es g)
       unfolding copyBranches
       copy-keeps [] g v a = v
-      copy-keeps (e ∷ es) g v a = then-keeps (Same ns) (Same ns) _ _ (copyRow-keeps g e _ _ v (a .0)) λ g v. copy-keeps es g v (a .1)
+      copy-keeps (e ∷ es) g v a = then-keeps (Same ns) (Same ns) _ _ (copyRow-keeps g e _ refl v (a .0)) λ g v. copy-keeps es g v (a .1)
 
   module _ (c : ℕ) (lo : 1 ≤ c) (hi : c ≤ rules) (u : ℕ) (y : symbol u ≡ true) where
-    to-keeps : (g : Grown) (n t : ℕ) (e : Edge) (o : Option Edge) → Inv rules z g → Found (RowOk rules (g .nodes)) n 1 t (some e) → Found (RowOk rules (g .nodes)) n 1 u o
+    to-keeps : (g : Grown) (n t : ℕ) (e : Edge) (o : Option Edge) → Inv rules z g → Found (RowOk rules (g .nodes)) n 1 t (some e) → Found (RowOk rules (g .nodes)) n 1 u o → find (g .edges) n 1 u ≡ o
         → Keeps (Same (g .nodes)) (convertTo z c u g n e o)
     unfolding convertTo apart branchAt
-    to-keeps g n t e none v f d = converted-keeps (g .nodes) c lo hi 0 g n u e (omega arith) (v, refl) (f .0) (rw (f .1) at (f .0 .from-in)) (rw (f .1) at (f .0 .from-branch)) y
-        λ p q. f .0 .level (f .1 ∙ p) q
-    to-keeps g n t e (some d) v f k = bind-keeps (Same (g .nodes)) _ badCopy g _ λ t.
-        copy-keeps (g .nodes) c lo hi (e .to) (d .to) (k .0 .to-in)
-        (eqb-true _ _ (and-r (not (eqb (e .to) (d .to)) && eqb (getD (g .nodes) (e .to) 0) 0) _ t)) (k .0 .to-inner) (g .edges) g (v, refl) (v .fair .rows)
+    to-keeps g n t e none v f d k = converted-keeps (g .nodes) c lo hi 0 g n u e (omega arith) (v, refl) (f .0) (rw (f .1) at (f .0 .from-in)) (rw (f .1) at (f .0 .from-branch)) y
+        (λ p q. f .0 .level (f .1 ∙ p) q) (rw (f .2) k)
+    to-keeps g n t e (some d) v f k x = bind-keeps (Same (g .nodes)) _ badCopy g _ λ t.
+        copy-keeps (g .nodes) c lo hi (d .to) (k .0 .to-in)
+        (eqb-true _ _ (and-r (not (eqb (e .to) (d .to)) && eqb (getD (g .nodes) (e .to) 0) 0) _ t)) (k .0 .to-inner) (leaving (e .to) (g .edges)) g (v, refl)
+        (all-leaving (RowOk rules (g .nodes)) (e .to) (g .edges) (v .fair .rows))
 
     at-keeps : (g : Grown) (n t : ℕ) (o : Option Edge) → Inv rules z g → Found (RowOk rules (g .nodes)) n 1 t o → Keeps (Same (g .nodes)) (convertAt z c u g n o)
     unfolding convertAt
     at-keeps g n t none v f = (v, refl)
-    at-keeps g n t (some e) v f = to-keeps g n t e _ v f (find-found (RowOk rules (g .nodes)) (g .edges) n 1 u (v .fair .rows))
+    at-keeps g n t (some e) v f = to-keeps g n t e _ v f (find-found (RowOk rules (g .nodes)) (g .edges) n 1 u (v .fair .rows)) refl
 
     nodes-keep : (t k n : ℕ) (g : Grown) → Inv rules z g → Keeps (Inv rules z) (convertNodes z c t u k n g)
     unfolding convertNodes
@@ -282,10 +289,10 @@ module _ (rules : ℕ) (z : Room) where
 -- ---- the whole
 
 pub plant-keeps : (z : Room) (R : List Rule) → Proper R → Keeps (Inv (length R) z) (plant z R)
-unfolding plant
+unfolding plant rising
 plant-keeps z R a = bind-keeps (Inv (length R) z) (ltb 0 (z .nodes)) noNode rootAlone _ λ t.
     let v : Inv (length R) z rootAlone = record {
-      fair = record { some-node = omega arith; root = refl; words = (omega arith, tt); rows = tt };
+      fair = record { some-node = omega arith; root = refl; words = (omega arith, tt); rows = tt; order = refl };
       nodes-in = ltb-true 0 (z .nodes) t;
       edges-in = omega arith;
     } in

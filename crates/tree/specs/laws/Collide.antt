@@ -1,7 +1,7 @@
 -- 11 comes exactly where a body and one that is placed are equal, or one of them begins the other, whatever the room.
 -- While rules are placed, each node is reached by one list of items alone. So a body that follows the tree down follows the placed bodies.
 use mathlib.Core.Path.{_≡_, refl, sym, _∙_, ap}
-use mathlib.Core.Bool.{Bool, true, false, false≢true, _&&_}
+use mathlib.Core.Bool.{Bool, true, false, false≢true}
 use mathlib.Core.List.{List, [], _∷_, _++_, append-assoc, append-nil, cons≢nil}
 use mathlib.Core.Option.{Option, some, none, Option·none-ne-some, Option·some-injective}
 use mathlib.Core.Logic.{_≢_, _↔_, _⊎_, inl, inr}
@@ -10,13 +10,13 @@ use native.Mathlib.Omega.{arith}
 use lib.Dec.{eqb}
 use lib.ListN.{length, length-append, List·getD-append}
 use lib.Seq.{getD-append-seam}
-use borrow.Author.Tests.{eqb-true, ne-eqb, ltb-true, lt-ltb}
+use borrow.Author.Tests.{ne-eqb, ltb-true, lt-ltb}
 use Rattle.words.specs.Outcome.{Res, ok, no, bind, when}
 use Rattle.words.specs.Numbers.{Fault, collides, noNode, noEdge, sixthReduce, badCopy, faultNumber}
-use Rattle.words.specs.laws.Tests.{and-l, and-r}
 use Rattle.rules.specs.Rules.{Item, con, slot, Rule, source}
-use Rattle.rows.specs.Rows.{Reduce, Edge, keyed, find}
-use Rattle.rows.specs.laws.Lookup.{orElse, find-append, find-kept, find-new}
+use Rattle.rows.specs.Rows.{Reduce, Edge, insertEdge, keyed, find, leaving}
+use Rattle.rows.specs.laws.Order.{keyed-is}
+use Rattle.rows.specs.laws.Insert.{find-own, find-at, find-other, find-kept}
 use Rattle.tree.specs.Grow.{Grown, Room, kind, sym as symOf, edgeFor, branchAt, addEdge, addNode, placeLast, placeInner, place, placeRule, placeRules, rootAlone, plant, grow}
 use Rattle.tree.specs.Grow.{addConverted, copyRow, copyBranches, convertTo, convertAt, convertNodes, convert, convertAll}
 
@@ -34,14 +34,14 @@ abbrev row : Grown → ℕ → Item → Edge
 row g n i = record { from = n; kind = kind i; sym = symOf i; to = length (g .nodes); reduces = [] }
 
 abbrev added : Grown → ℕ → Item → ℕ → Grown
-added g n i w = record { nodes = g .nodes ++ w ∷ []; edges = g .edges ++ row g n i ∷ [] }
+added g n i w = record { nodes = g .nodes ++ w ∷ []; edges = insertEdge (row g n i) (g .edges) }
 
-edge-kept : (g : Grown) (n : ℕ) (i : Item) (w m : ℕ) (j : Item) (e : Edge) → edgeFor g m j ≡ some e → edgeFor (added g n i w) m j ≡ some e
-edge-kept g n i w m j e h = find-kept (g .edges) (row g n i ∷ []) m (kind j) (symOf j) e h
+edge-kept : (g : Grown) (n : ℕ) (i : Item) (w m : ℕ) (j : Item) (e : Edge) → edgeFor g n i ≡ none → edgeFor g m j ≡ some e → edgeFor (added g n i w) m j ≡ some e
+edge-kept g n i w m j e f h = find-kept (row g n i) (g .edges) f m (kind j) (symOf j) e h
 
 -- the new row is found by its own key
-edge-made : (g : Grown) (n : ℕ) (i : Item) (w : ℕ) → edgeFor g n i ≡ none → edgeFor (added g n i w) n i ≡ some (row g n i)
-edge-made g n i w h = find-new (g .edges) (row g n i) h
+edge-made : (g : Grown) (n : ℕ) (i : Item) (w : ℕ) → edgeFor (added g n i w) n i ≡ some (row g n i)
+edge-made g n i w = find-own (row g n i) (g .edges)
 
 data New (g : Grown) (n : ℕ) (i : Item) (m : ℕ) (j : Item) (e : Edge) : Type 0 where
   old : edgeFor g m j ≡ some e → New g n i m j e
@@ -49,21 +49,14 @@ data New (g : Grown) (n : ℕ) (i : Item) (m : ℕ) (j : Item) (e : Edge) : Type
 
 -- and by no other
 edge-new : (g : Grown) (n : ℕ) (i : Item) (w m : ℕ) (j : Item) (e : Edge) → edgeFor (added g n i w) m j ≡ some e → New g n i m j e
-unfolding find keyed
-edge-new g n i w m j e h = go (edgeFor g m j) refl (sym (find-append (g .edges) (row g n i ∷ []) m (kind j) (symOf j)) ∙ h)
+edge-new g n i w m j e h = by (keyed m (kind j) (symOf j) (row g n i)) refl
   where
-    test : (b : Bool) → (eqb n m && eqb (kind i) (kind j) && eqb (symOf i) (symOf j)) ≡ b → elim b [ true ↦ some (row g n i) | false ↦ none ] ≡ some e
-        → New g n i m j e
-    test true t h =
-        let a = and-l (eqb n m && eqb (kind i) (kind j)) _ t in
-        made (sym (eqb-true n m (and-l (eqb n m) _ a)))
-        (sym (same-item i j (eqb-true _ _ (and-r (eqb n m) _ a)) (eqb-true _ _ (and-r (eqb n m && eqb (kind i) (kind j)) _ t))))
-        (ap (λ (e : Edge). e .to) (sym (Option·some-injective _ _ h)))
-    test false t h = absurd (Option·none-ne-some _ h)
-
-    go : (o : Option Edge) → edgeFor g m j ≡ o → orElse o (find (row g n i ∷ []) m (kind j) (symOf j)) ≡ some e → New g n i m j e
-    go (some d) p q = old (p ∙ q)
-    go none p q = test _ refl q
+    by : (b : Bool) → keyed m (kind j) (symOf j) (row g n i) ≡ b → New g n i m j e
+    by true q =
+        let k = keyed-is m (kind j) (symOf j) (row g n i) q in
+        let own = find-at (row g n i) (g .edges) m (kind j) (symOf j) q in
+        made (sym (k .0)) (sym (same-item i j (k .1) (k .2))) (ap (λ (e : Edge). e .to) (Option·some-injective _ _ (sym h ∙ own)))
+    by false q = old (sym (find-other (row g n i) (g .edges) m (kind j) (symOf j) q) ∙ h)
 
 node-kept : (g : Grown) (n : ℕ) (i : Item) (w m : ℕ) → m < length (g .nodes) → branchAt (added g n i w) m ≡ branchAt g m
 unfolding branchAt
@@ -121,13 +114,13 @@ more-begun t = renamed (λ _ s. s) (λ _ s. s) (λ _ s. inl s) t
 -- ---- one more node keeps it a tree
 
 module _ {S T : List Item → Type 0} {g : Grown} (t : Tree S T g) (n : ℕ) (i : Item) (x : ℕ) where
-  way-kept : {w : List Item} {m : ℕ} → Way g w m → Way (added g n i x) w m
-  way-kept start = start
-  way-kept (onward w m j e v b h) = onward w m j e (way-kept v) (node-kept g n i x m (inside t v) ∙ b) (edge-kept g n i x m j e h)
+  way-kept : edgeFor g n i ≡ none → {w : List Item} {m : ℕ} → Way g w m → Way (added g n i x) w m
+  way-kept f start = start
+  way-kept f (onward w m j e v b h) = onward w m j e (way-kept f v) (node-kept g n i x m (inside t v) ∙ b) (edge-kept g n i x m j e f h)
 
   module _ (c : List Item) (a : Way g c n) (b : branchAt g n ≡ true) (f : edgeFor g n i ≡ none) where
     way-made : Way (added g n i x) (c ++ i ∷ []) (length (g .nodes))
-    way-made = onward c n i (row g n i) (way-kept a) (node-kept g n i x n (inside t a) ∙ b) (edge-made g n i x f)
+    way-made = onward c n i (row g n i) (way-kept f a) (node-kept g n i x n (inside t a) ∙ b) (edge-made g n i x)
 
     -- no row leaves the new node
     dead : (j : Item) (e : Edge) → edgeFor (added g n i x) (length (g .nodes)) j ≡ some e → ⊥
@@ -183,7 +176,7 @@ module _ {S T : List Item → Type 0} {g : Grown} (t : Tree S T g) (n : ℕ) (i 
         beginnings w m (inr v) = inr (p, tp, rw (v .0) bp)
 
         theres : (q : List Item) → S q ⊎ ((c ++ i ∷ [] ≡ q) × (eqb x 0 ≡ false)) → (m : ℕ) × Way (added g n i x) q m × (branchAt (added g n i x) m ≡ false)
-        theres q (inl s) = let d = t .there q s in (d .0, way-kept (d .1), node-kept g n i x (d .0) (inside t (d .1)) ∙ d .2)
+        theres q (inl s) = let d = t .there q s in (d .0, way-kept f (d .1), node-kept g n i x (d .0) (inside t (d .1)) ∙ d .2)
         theres q (inr k) = (length (g .nodes), rw (k .0) at way-made, node-made g n i x ∙ k .1)
 
 -- ---- what stops a body at a node
@@ -450,21 +443,20 @@ module _ (z : Room) (c : ℕ) where
   converted-never g n s e none = bad sixthReduce (other sixthReduce λ e. omega arith)
   converted-never g n s e (some ds) = after-end _ _ _ noEdge _ tt (other noEdge λ e. omega arith)
 
-  row-never : (g : Grown) (m : ℕ) (e : Edge) (b : Bool) (o : Option Edge) → Never (copyRow z c g m e b o)
+  row-never : (g : Grown) (m : ℕ) (e : Edge) (o : Option Edge) → Never (copyRow z c g m e o)
   unfolding copyRow
-  row-never g m e false o = good g tt
-  row-never g m e true (some d) = good g tt
-  row-never g m e true none = converted-never g m (e .sym) e _
+  row-never g m e (some d) = good g tt
+  row-never g m e none = converted-never g m (e .sym) e _
 
-  copy-never : (n m : ℕ) (es : List Edge) (g : Grown) → Never (copyBranches z c n m es g)
+  copy-never : (m : ℕ) (es : List Edge) (g : Grown) → Never (copyBranches z c m es g)
   unfolding copyBranches
-  copy-never n m [] g = good g tt
-  copy-never n m (e ∷ es) g = never-then _ (row-never g m e _ _) λ g. copy-never n m es g
+  copy-never m [] g = good g tt
+  copy-never m (e ∷ es) g = never-then _ (row-never g m e _) λ g. copy-never m es g
 
   to-never : (u : ℕ) (g : Grown) (n : ℕ) (e : Edge) (o : Option Edge) → Never (convertTo z c u g n e o)
   unfolding convertTo faultNumber
   to-never u g n e none = converted-never g n u e _
-  to-never u g n e (some d) = after-when _ _ _ badCopy g _ (λ _. copy-never (e .to) (d .to) (g .edges) g) λ _. other badCopy λ e. omega arith
+  to-never u g n e (some d) = after-when _ _ _ badCopy g _ (λ _. copy-never (d .to) (leaving (e .to) (g .edges)) g) λ _. other badCopy λ e. omega arith
 
   at-never : (u : ℕ) (g : Grown) (n : ℕ) (o : Option Edge) → Never (convertAt z c u g n o)
   unfolding convertAt

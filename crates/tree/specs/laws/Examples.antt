@@ -4,7 +4,7 @@ use mathlib.Core.Bool.{Bool, true, _&&_}
 use mathlib.Core.List.{List, [], _∷_, _++_}
 use Prim.Native.Nat.{ℕ, zero, suc, _+_}
 use lib.Dec.{eqb}
-use lib.ListN.{take}
+use lib.ListN.{take, drop}
 use Rattle.words.specs.Limits.{mostNodes, mostEdges}
 use Rattle.words.specs.Outcome.{Res, ok, no}
 use Rattle.words.specs.Numbers.{Fault, faultNumber}
@@ -32,7 +32,7 @@ grown-S = refl
 -- node 17 has its own row, and two that are copied from node 12
 grown-S10 : grow wide (theRules words-S10) ≡ ok (record {
   nodes = nodes-S ++ 0 ∷ 0 ∷ 10 ∷ [];
-  edges = take 16 edges-S ++ edge 0 1 4 17 [] ∷ edge 17 0 15 18 [] ∷ edge 18 1 4 19 [] ∷ edge 17 0 8 13 five ∷ edge 17 0 9 15 five ∷ edge 13 1 4 14 five ∷ edge 15 1 4 16 five ∷ [];
+  edges = take 7 edges-S ++ edge 0 1 4 17 [] ∷ (drop 8 edges-S ++ edge 17 0 8 13 five ∷ edge 17 0 9 15 five ∷ edge 17 0 15 18 [] ∷ edge 18 1 4 19 [] ∷ []);
 })
 unfolding sets tables reading growing
 grown-S10 = refl
@@ -40,7 +40,7 @@ grown-S10 = refl
 -- the links in a bad order: the second conversion's row comes too late for the first
 grown-T : grow wide (theRules words-T) ≡ ok (record {
   nodes = 0 ∷ 1 ∷ 0 ∷ 4 ∷ [];
-  edges = edge 0 0 30 1 [] ∷ edge 0 0 31 2 [] ∷ edge 2 1 22 3 [] ∷ edge 2 1 21 3 (reduce 3 0 ∷ []) ∷ [];
+  edges = edge 0 0 30 1 [] ∷ edge 0 0 31 2 [] ∷ edge 2 1 21 3 (reduce 3 0 ∷ []) ∷ edge 2 1 22 3 [] ∷ [];
 })
 unfolding sets reading growing
 grown-T = refl
@@ -48,8 +48,8 @@ grown-T = refl
 -- a copied variable edge has the conversion at offset 1; what is copied is then converted itself
 grown-U : grow wide (theRules words-U) ≡ ok (record {
   nodes = 0 ∷ 1 ∷ 2 ∷ 0 ∷ 4 ∷ 0 ∷ 5 ∷ [];
-  edges = edge 0 0 12 1 [] ∷ edge 0 0 13 2 [] ∷ edge 0 1 3 3 [] ∷ edge 3 1 3 4 [] ∷ edge 0 1 4 5 [] ∷ edge 5 0 15 6 []
-      ∷ edge 5 1 3 4 (reduce 3 1 ∷ []) ∷ edge 3 1 4 4 (reduce 3 0 ∷ []) ∷ edge 5 1 4 4 (reduce 3 0 ∷ reduce 3 1 ∷ []) ∷ [];
+  edges = edge 0 0 12 1 [] ∷ edge 0 0 13 2 [] ∷ edge 0 1 3 3 [] ∷ edge 0 1 4 5 [] ∷ edge 3 1 3 4 [] ∷ edge 3 1 4 4 (reduce 3 0 ∷ [])
+      ∷ edge 5 0 15 6 [] ∷ edge 5 1 3 4 (reduce 3 1 ∷ []) ∷ edge 5 1 4 4 (reduce 3 0 ∷ reduce 3 1 ∷ []) ∷ [];
 })
 unfolding sets reading growing
 grown-U = refl
@@ -57,7 +57,7 @@ grown-U = refl
 -- two conversions on one edge, the later one first
 grown-V : grow wide (theRules words-V) ≡ ok (record {
   nodes = 0 ∷ 1 ∷ 0 ∷ 4 ∷ [];
-  edges = edge 0 0 30 1 [] ∷ edge 0 0 31 2 [] ∷ edge 2 1 22 3 [] ∷ edge 2 1 21 3 (reduce 2 0 ∷ []) ∷ edge 2 1 20 3 (reduce 3 0 ∷ reduce 2 0 ∷ []) ∷ [];
+  edges = edge 0 0 30 1 [] ∷ edge 0 0 31 2 [] ∷ edge 2 1 20 3 (reduce 3 0 ∷ reduce 2 0 ∷ []) ∷ edge 2 1 21 3 (reduce 2 0 ∷ []) ∷ edge 2 1 22 3 [] ∷ [];
 })
 unfolding sets reading growing
 grown-V = refl
@@ -65,7 +65,7 @@ grown-V = refl
 -- c8 is kept, c9 is copied
 grown-kept : grow wide (rule 2 (slot 3 ∷ con 8 ∷ []) ∷ rule 2 (slot 3 ∷ con 9 ∷ []) ∷ rule 2 (slot 4 ∷ con 8 ∷ []) ∷ rule 3 (slot 4 ∷ []) ∷ []) ≡ ok (record {
   nodes = 0 ∷ 0 ∷ 1 ∷ 2 ∷ 0 ∷ 3 ∷ [];
-  edges = edge 0 1 3 1 [] ∷ edge 1 0 8 2 [] ∷ edge 1 0 9 3 [] ∷ edge 0 1 4 4 [] ∷ edge 4 0 8 5 [] ∷ edge 4 0 9 3 (reduce 4 0 ∷ []) ∷ [];
+  edges = edge 0 1 3 1 [] ∷ edge 0 1 4 4 [] ∷ edge 1 0 8 2 [] ∷ edge 1 0 9 3 [] ∷ edge 4 0 8 5 [] ∷ edge 4 0 9 3 (reduce 4 0 ∷ []) ∷ [];
 })
 unfolding growing
 grown-kept = refl
@@ -81,9 +81,9 @@ chained n = rule 2 (con 31 ∷ slot (40 + n) ∷ []) ∷ chain n
 
 grown-chain : grow wide (chained 5) ≡ ok (record {
   nodes = 0 ∷ 0 ∷ 1 ∷ [];
-  edges = edge 0 0 31 1 [] ∷ edge 1 1 45 2 [] ∷ edge 1 1 44 2 (reduce 2 0 ∷ []) ∷ edge 1 1 43 2 (reduce 3 0 ∷ reduce 2 0 ∷ [])
-      ∷ edge 1 1 42 2 (reduce 4 0 ∷ reduce 3 0 ∷ reduce 2 0 ∷ []) ∷ edge 1 1 41 2 (reduce 5 0 ∷ reduce 4 0 ∷ reduce 3 0 ∷ reduce 2 0 ∷ [])
-      ∷ edge 1 1 40 2 (reduce 6 0 ∷ reduce 5 0 ∷ reduce 4 0 ∷ reduce 3 0 ∷ reduce 2 0 ∷ []) ∷ [];
+  edges = edge 0 0 31 1 [] ∷ edge 1 1 40 2 (reduce 6 0 ∷ reduce 5 0 ∷ reduce 4 0 ∷ reduce 3 0 ∷ reduce 2 0 ∷ [])
+      ∷ edge 1 1 41 2 (reduce 5 0 ∷ reduce 4 0 ∷ reduce 3 0 ∷ reduce 2 0 ∷ []) ∷ edge 1 1 42 2 (reduce 4 0 ∷ reduce 3 0 ∷ reduce 2 0 ∷ [])
+      ∷ edge 1 1 43 2 (reduce 3 0 ∷ reduce 2 0 ∷ []) ∷ edge 1 1 44 2 (reduce 2 0 ∷ []) ∷ edge 1 1 45 2 [] ∷ [];
 })
 unfolding chain growing
 grown-chain = refl
@@ -184,3 +184,19 @@ copying = case wide (joined [] (con 9 ∷ []) []) 16
 copying-met : met copying ≡ true
 unfolding met fate copying chain growing
 copying-met = refl
+
+-- conversions from typecodes 21 to 25 and from 10, all to 20 in the end
+abbrev spread : List Rule
+spread = rule 20 (slot 21 ∷ []) ∷ rule 21 (slot 22 ∷ []) ∷ rule 22 (slot 23 ∷ []) ∷ rule 23 (slot 24 ∷ []) ∷ rule 24 (slot 25 ∷ []) ∷ rule 20 (slot 10 ∷ []) ∷ []
+
+-- of the rows that are copied the one with the lowest key decides: its sixth reduce though no row is free, or no free row though a later one
+-- would have a sixth reduce
+unfoldable lowest : List Case
+lowest = case (room 6 10) (joined (slot 45 ∷ []) (con 11 ∷ []) (chain 5)) 14
+    ∷ case (room 6 16) (joined (slot 20 ∷ []) (con 11 ∷ []) spread) 13
+    ∷ case (room 6 17) (joined (slot 20 ∷ []) (con 11 ∷ []) spread) 14
+    ∷ []
+
+lowest-met : met lowest ≡ true
+unfolding met fate lowest chain growing
+lowest-met = refl

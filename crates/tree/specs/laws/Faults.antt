@@ -9,7 +9,7 @@ use lib.ListN.{length}
 use Rattle.words.specs.Outcome.{Res, ok, no, bind, when}
 use Rattle.words.specs.Numbers.{Fault, collides, noNode, noEdge, sixthReduce, badCopy}
 use Rattle.rules.specs.Rules.{Item, Rule, source}
-use Rattle.rows.specs.Rows.{Reduce, Edge, find}
+use Rattle.rows.specs.Rows.{Reduce, Edge, leaving}
 use Rattle.tree.specs.Grow.{Grown, Room, kind, sym, addEdge, addNode, placeLast, placeInner, place, placeRule, placeRules, addConverted, copyRow, copyBranches, convertTo, convertAt, convertNodes, convert, convertAll, plant}
 
 pub data Only (P : Fault → Type 0) {A : Type 0} : Res Fault A → Type 0 where
@@ -77,21 +77,20 @@ module _ (P : Fault → Type 0) (z : Room) where
     only-added g n t e none = faulty sixthReduce s
     only-added g n t e (some ds) = only-edge p g _
 
-    only-row : (c : ℕ) (g : Grown) (m : ℕ) (e : Edge) (x : Bool) (o : Option Edge) → Only P (copyRow z c g m e x o)
+    only-row : (c : ℕ) (g : Grown) (m : ℕ) (e : Edge) (o : Option Edge) → Only P (copyRow z c g m e o)
     unfolding copyRow
-    only-row c g m e false o = fine g
-    only-row c g m e true (some d) = fine g
-    only-row c g m e true none = only-added g m _ e _
+    only-row c g m e (some d) = fine g
+    only-row c g m e none = only-added g m _ e _
 
-    only-copy : (c n m : ℕ) (es : List Edge) (g : Grown) → Only P (copyBranches z c n m es g)
+    only-copy : (c m : ℕ) (es : List Edge) (g : Grown) → Only P (copyBranches z c m es g)
     unfolding copyBranches
-    only-copy c n m [] g = fine g
-    only-copy c n m (e ∷ es) g = only-bind P _ (only-row c g m e _ _) λ g. only-copy c n m es g
+    only-copy c m [] g = fine g
+    only-copy c m (e ∷ es) g = only-bind P _ (only-row c g m e _) λ g. only-copy c m es g
 
     only-to : (c u : ℕ) (g : Grown) (n : ℕ) (e : Edge) (o : Option Edge) → Only P (convertTo z c u g n e o)
     unfolding convertTo
     only-to c u g n e none = only-added g n u e _
-    only-to c u g n e (some d) = only-bind P _ (only-when P _ badCopy g b) λ g. only-copy c (e .to) (d .to) (g .edges) g
+    only-to c u g n e (some d) = only-bind P _ (only-when P _ badCopy g b) λ g. only-copy c (d .to) (leaving (e .to) (g .edges)) g
 
     only-at : (c u : ℕ) (g : Grown) (n : ℕ) (o : Option Edge) → Only P (convertAt z c u g n o)
     unfolding convertAt

@@ -28,7 +28,8 @@ size c = rw (part-all (now (c .before .before .before .before .before .before .b
 
 converts-requires : tie.Need-converts-requires Inv-loop μ-loop
 converts-requires c κs =
-    rw (part-all (now (c .before .before .before .before .before .args .rules)) (c .before .before .loop .i)) (here (c .before) .good)
+    let st = c .before .before .before .before .before in
+    (rw (part-all (now (st .args .rules)) (c .before .before .loop .i)) (here (c .before) .good), st .pre .1)
 
 result-of-requires : tie.Need-result-of-requires Inv-loop μ-loop
 result-of-requires c κs =
@@ -67,7 +68,7 @@ conversion-spec =
     (tie.spec
     Inv-loop
     μ-loop
-    (λ c. let a = c .before .before .args in (search needs, trying-start (now (a .edges)) (a .wish) (now (a .rules)) (a .t .0) (c .before .before .pre)))
+    (λ c. let a = c .before .before .args in (search needs, trying-start (now (a .edges)) (a .wish) (now (a .rules)) (a .t .0) (c .before .before .pre .0)))
     (λ c. omega (arith, here c .counted, rules-most mostRules (now (c .before .before .before .before .args .rules))))
     (λ c. search needs)
     (λ c. search needs)

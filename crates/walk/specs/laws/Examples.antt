@@ -23,12 +23,12 @@ at r o = record { rule = r; offset = o }
 -- set T, whose conversions stand in the order in which no chain of two is grown
 T : Tables
 T = tablesOf (rule 20 (con 30 ∷ []) ∷ rule 21 (slot 20 ∷ []) ∷ rule 22 (slot 21 ∷ []) ∷ rule 2 (con 31 ∷ slot 22 ∷ []) ∷ []) (0 ∷ 1 ∷ 0 ∷ 4 ∷ [])
-    (edge 0 0 30 1 [] ∷ edge 0 0 31 2 [] ∷ edge 2 1 22 3 [] ∷ edge 2 1 21 3 (at 3 0 ∷ []) ∷ [])
+    (edge 0 0 30 1 [] ∷ edge 0 0 31 2 [] ∷ edge 2 1 21 3 (at 3 0 ∷ []) ∷ edge 2 1 22 3 [] ∷ [])
 
 -- the same with a constant after the slot
 T32 : Tables
 T32 = tablesOf (rule 20 (con 30 ∷ []) ∷ rule 21 (slot 20 ∷ []) ∷ rule 22 (slot 21 ∷ []) ∷ rule 2 (con 31 ∷ slot 22 ∷ con 32 ∷ []) ∷ [])
-    (0 ∷ 1 ∷ 0 ∷ 0 ∷ 4 ∷ []) (edge 0 0 30 1 [] ∷ edge 0 0 31 2 [] ∷ edge 2 1 22 3 [] ∷ edge 3 0 32 4 [] ∷ edge 2 1 21 3 (at 3 0 ∷ []) ∷ [])
+    (0 ∷ 1 ∷ 0 ∷ 0 ∷ 4 ∷ []) (edge 0 0 30 1 [] ∷ edge 0 0 31 2 [] ∷ edge 2 1 21 3 (at 3 0 ∷ []) ∷ edge 2 1 22 3 [] ∷ edge 3 0 32 4 [] ∷ [])
 
 -- a frame at a node whose constant is in the tree already: no grown table has one
 early : Tables
@@ -53,10 +53,6 @@ bareBranch = tablesOf [] (0 ∷ 0 ∷ []) (edge 0 0 10 1 [] ∷ [])
 -- 10 leads from node 0 to a leaf with this word, after these reduces. Rule 1 has no slot, rule 2 has two
 oneLeaf : ℕ → List Reduce → Tables
 oneLeaf w ds = tablesOf (rule 2 (con 10 ∷ []) ∷ rule 2 (slot 2 ∷ slot 2 ∷ []) ∷ []) (0 ∷ w ∷ []) (edge 0 0 10 1 ds ∷ [])
-
--- two rows with the key of 10, to the leaves of rules 1 and 2
-twoRows : Tables
-twoRows = tablesOf (rule 2 (con 10 ∷ []) ∷ rule 2 (con 10 ∷ []) ∷ []) (0 ∷ 1 ∷ 2 ∷ []) (edge 0 0 10 1 [] ∷ edge 0 0 10 2 [] ∷ [])
 
 -- ---- rows
 
@@ -127,7 +123,6 @@ rows = row S [] 1 0 [] 0
     ∷ limited crowded (2 ∷ replicate 8 10) 31 7 136 7 0 [] 30
     -- look-ups
     ∷ row bareBranch (1 ∷ 10 ∷ 11 ∷ []) 2 2 [] 2
-    ∷ row twoRows (1 ∷ 10 ∷ []) 0 0 (1 ∷ []) 2
     ∷ row (oneLeaf 3 []) (1 ∷ 10 ∷ []) 4 0 [] 2
     -- too few trees, at a leaf and on an edge, whose reduces come before the token is taken
     ∷ row (oneLeaf 2 []) (1 ∷ 10 ∷ []) 4 0 [] 2
@@ -148,5 +143,5 @@ every [] = true
 every (r ∷ rs) = agree r (walk (r .tables) 1 2 (r .allowance) (record { frames = r .frames; list = r .room }) (r .tokens)) && every rs
 
 claim : every rows ≡ true
-unfolding every rows agree S T T32 early five crowded W bareBranch oneLeaf twoRows sets tables sameWords walking
+unfolding every rows agree S T T32 early five crowded W bareBranch oneLeaf sets tables sameWords walking
 claim = refl

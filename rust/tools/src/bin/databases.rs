@@ -1,7 +1,8 @@
 //! Builds the grammar of each Metamath database that is named, parses every statement of it through the proved library, and has each list
 //! that comes back checked alone. A database with commands is taken without them first, then with them; `--paths FOLDER` has a text of commands for
 //! each that has none in its own comments (`set.mm.txt` for `set.mm`). With `--oracle PROGRAM` the line driver around the published Rust answers the
-//! same questions, and each answer is held against it. Prints a table, then one of the commands, then what the comparisons found; says on standard
+//! same questions, and each answer is held against it. With `--write FILE` all trees and answers are written down, to be compared with those of another build of
+//! the library. Prints a table, then one of the commands, then what the comparisons found; says on standard
 //! error how far it is.
 
 use jiehkavon::limits::{FRAME_WIDTH, MOST_CLONES, MOST_EDGES, MOST_NODES, ROW_WIDTH};
@@ -14,7 +15,7 @@ use std::time::{Duration, Instant};
 use tools::metamath::{Command as After, Database, Item, Statement};
 use tools::oracle::{Edge, Node, Tree};
 use tools::tables;
-use tools::trees::{relation, Relation};
+use tools::trees::{by_reach, relation, Relation};
 
 const HEADINGS: [&str; 12] = [
     "database",
@@ -360,6 +361,8 @@ struct Task {
     oracle: Option<String>,
     /// The folder with texts of commands.
     paths: Option<String>,
+    /// Where all trees and answers are written down.
+    written: Option<std::fs::File>,
     /// A row for each database with garden paths: what is known of its build.
     builds: Vec<String>,
     findings: Findings,
@@ -374,6 +377,7 @@ impl Task {
             let build = build_row(name, &g)?;
             self.builds.push(build);
         }
+        self.write_down(name, &g, &outcomes).map_err(|e| e.to_string())?;
         if tally.checked != tally.accepted() {
             self.findings.blame(format!("{name}: the check refuses lists that were accepted"));
         }
@@ -386,6 +390,24 @@ impl Task {
         let told = ask(oracle, database)?;
         self.findings.compare(name, &g, &outcomes, &told);
         Ok(())
+    }
+
+    /// The tree up to the numbers of its nodes, and a line for each statement: number, place and passes, then the list.
+    fn write_down(&mut self, name: &str, g: &Grammar, outcomes: &[Outcome]) -> std::io::Result<()> {
+        let Some(file) = &mut self.written else { return Ok(()) };
+        let mut out = std::io::BufWriter::new(file);
+        let tree = by_reach(&g.tree()).unwrap_or_default();
+        write!(out, "{name}: {}\n{tree}", g.built.number)?;
+        for Outcome {
+            number,
+            place,
+            passes,
+            list,
+        } in outcomes
+        {
+            writeln!(out, "{number} {place} {passes} {list:?}")?;
+        }
+        out.flush()
     }
 
     fn run_file(&mut self, path: &str) -> Result<(), String> {
@@ -445,13 +467,15 @@ fn option(args: &mut Vec<String>, name: &str) -> Option<String> {
 fn main() -> ExitCode {
     let mut args: Vec<String> = std::env::args().skip(1).collect();
     let (oracle, paths) = (option(&mut args, "--oracle"), option(&mut args, "--paths"));
-    if args.is_empty() {
-        eprintln!("databases [--oracle PROGRAM] [--paths FOLDER] FILE...");
+    let written = option(&mut args, "--write").map(std::fs::File::create).transpose();
+    let (false, Ok(written)) = (args.is_empty(), written) else {
+        eprintln!("databases [--oracle PROGRAM] [--paths FOLDER] [--write FILE] FILE...");
         return ExitCode::from(2);
-    }
+    };
     let mut task = Task {
         oracle,
         paths,
+        written,
         builds: Vec::new(),
         findings: Findings::default(),
     };

@@ -3,20 +3,21 @@
 use std::collections::BTreeMap;
 use std::io::{self, BufWriter, Read, Write};
 use std::process::{Command, ExitCode, Stdio};
-use tools::grown::{grow_garden, grow_set, Sentences, Set};
-use tools::held::{hold, Tally, Verdict};
+use tools::grown::Set;
+use tools::held::{hold, Again, Tally, Verdict};
 use tools::oracle::{Answers, Asked};
-use tools::random::Random;
+use tools::sets::{number, Sets};
 use tools::{sides, vectors};
 
 const USE: &str = "judge make KIND SEED SETS STATEMENTS        writes the questions
-judge hold KIND SEED SETS STATEMENTS SIDE ORACLE
+judge hold KIND SEED SETS STATEMENTS SIDE ORACLE [ORDERED]
                                             reads the Rust's answers to them and compares; 1 if anything is found
 judge sum                                   reads what several `hold` wrote and adds it up; 1 if anything was found
-judge pick KIND SEED SETS STATEMENTS ORACLE MOST
-                                            reads the answers as `hold` does and writes the questions of some sets, each pair of answers among them
+judge pick KIND SEED SETS STATEMENTS ORACLE MOST [ORDERED]
+                                            reads the answers as `hold` does and writes the questions of some sets, each pair of answers among them;
+                                            with ORDERED, of such where the order of the maps shows
 judge bind FILE                             reads the Rust's answers to a file of questions and writes both as a file of vectors
-KIND is rules, or gardens for sets with commands; SIDE is library or plain; ORACLE is the Rust's line driver";
+KIND is rules, or gardens for sets with commands; SIDE is library or plain; ORACLE is the Rust's line driver, ORDERED the one with maps in key order";
 
 fn main() -> ExitCode {
     let words: Vec<String> = std::env::args().skip(1).collect();
@@ -24,11 +25,17 @@ fn main() -> ExitCode {
     let result = match words[..] {
         ["make", kind, seed, sets, statements] => Sets::read(kind, [seed, sets, statements]).and_then(make),
         ["hold", kind, seed, sets, statements, side, oracle] => {
-            Sets::read(kind, [seed, sets, statements]).and_then(|sets| hold_all(sets, side, oracle))
+            Sets::read(kind, [seed, sets, statements]).and_then(|sets| hold_all(sets, side, oracle, None))
+        }
+        ["hold", kind, seed, sets, statements, side, oracle, ordered] => {
+            Sets::read(kind, [seed, sets, statements]).and_then(|sets| hold_all(sets, side, oracle, Some(ordered)))
         }
         ["sum"] => sum(),
         ["pick", kind, seed, sets, statements, oracle, most] => {
-            Sets::read(kind, [seed, sets, statements]).and_then(|sets| pick(sets, oracle, number(most)?))
+            Sets::read(kind, [seed, sets, statements]).and_then(|sets| pick(sets, oracle, number(most)?, None))
+        }
+        ["pick", kind, seed, sets, statements, oracle, most, ordered] => {
+            Sets::read(kind, [seed, sets, statements]).and_then(|sets| pick(sets, oracle, number(most)?, Some(ordered)))
         }
         ["bind", file] => bind(file),
         _ => Err(USE.to_string()),
@@ -43,47 +50,6 @@ fn main() -> ExitCode {
             eprintln!("judge: {why}");
             ExitCode::from(2)
         }
-    }
-}
-
-/// The sets of a seed.
-#[derive(Clone, Copy)]
-struct Sets {
-    grow: fn(u64, u64) -> (Set, Random),
-    seed: u64,
-    count: u64,
-    statements: u64,
-}
-
-fn number(word: &str) -> Result<u64, String> {
-    word.parse().map_err(|_| format!("no number: {word}"))
-}
-
-impl Sets {
-    fn read(kind: &str, [seed, sets, statements]: [&str; 3]) -> Result<Sets, String> {
-        let grow = match kind {
-            "rules" => grow_set,
-            "gardens" => grow_garden,
-            _ => return Err(format!("no kind of sets: {kind}")),
-        };
-        Ok(Sets {
-            grow,
-            seed: number(seed)?,
-            count: number(sets)?,
-            statements: number(statements)?,
-        })
-    }
-
-    fn asked(self, number: u64) -> Asked {
-        let (set, mut luck) = (self.grow)(self.seed, number);
-        let sentences = Sentences::of(&set);
-        let statements = (0..self.statements).map(|_| sentences.grow(&mut luck)).collect();
-        Asked { set, statements }
-    }
-
-    /// The name of a set, told before its questions and answers so that the two can't get out of step.
-    fn name(self, number: u64) -> String {
-        format!("set {number} of seed {}", self.seed)
     }
 }
 
@@ -125,16 +91,20 @@ fn with_answers(sets: Sets, mut each: impl FnMut(&str, &Asked, &Answers)) -> Res
 /// In how many orders the symbols of a set are told that parts from the Rust.
 const ORDERS: u64 = 12;
 
-/// The Rust's answers to a build in these orders.
-fn again(oracle: &str, asked: &Asked) -> Result<Vec<Answers>, String> {
-    let ordered = |shuffle| Asked {
+/// The builds of a set in these orders.
+fn shuffled(asked: &Asked) -> Vec<Asked> {
+    let shuffled = |shuffle| Asked {
         set: Set {
             shuffle,
             ..asked.set.clone()
         },
         statements: Vec::new(),
     };
-    let questions: Vec<Asked> = (0..ORDERS).map(ordered).collect();
+    (0..ORDERS).map(shuffled).collect()
+}
+
+/// A driver's answers.
+fn ask(oracle: &str, questions: &[Asked]) -> Result<Vec<Answers>, String> {
     let text: String = questions.iter().map(Asked::to_string).collect();
     let mut driver = Command::new(oracle)
         .stdin(Stdio::piped())
@@ -151,34 +121,39 @@ fn again(oracle: &str, asked: &Asked) -> Result<Vec<Answers>, String> {
 }
 
 /// What can't be asked again stays found.
-fn asking(oracle: &str) -> impl Fn(&Asked) -> Vec<Answers> + '_ {
-    move |asked| {
-        again(oracle, asked).unwrap_or_else(|why| {
-            eprintln!("judge: {why}");
-            Vec::new()
-        })
-    }
+fn asked_again(oracle: &str, questions: &[Asked]) -> Vec<Answers> {
+    ask(oracle, questions).unwrap_or_else(|why| {
+        eprintln!("judge: {why}");
+        Vec::new()
+    })
 }
 
-fn hold_all(sets: Sets, side: &str, oracle: &str) -> Result<u64, String> {
+fn hold_all(sets: Sets, side: &str, oracle: &str, ordered: Option<&str>) -> Result<u64, String> {
     let side = sides::named(side).ok_or_else(|| format!("no side: {side}"))?;
     let mut tally = Tally::default();
-    with_answers(sets, |name, asked, answers| {
-        hold(side, name, asked, answers, &asking(oracle), &mut tally)
-    })?;
+    let again = Again {
+        shuffled: &|asked| asked_again(oracle, &shuffled(asked)),
+        in_key_order: &|asked| asked_again(ordered?, std::slice::from_ref(asked)).pop(),
+    };
+    with_answers(sets, |name, asked, answers| hold(side, name, asked, answers, &again, &mut tally))?;
     Ok(tell(&tally))
 }
 
 /// Keeps a set if it has a pair of answers that fewer than `most` kept sets have, and more of those that build in both. A set that does not is
 /// kept without its statements, which have nothing to be held against. Giant sets would fill the file alone, and where the order of the Rust's
-/// maps shows its answers are not worth keeping.
-fn pick(sets: Sets, oracle: &str, most: u64) -> Result<u64, String> {
+/// maps shows in more than numbers its answers are not worth keeping; with the Rust whose maps are in key order, only such sets are.
+fn pick(sets: Sets, oracle: &str, most: u64, ordered: Option<&str>) -> Result<u64, String> {
     let mut kept: BTreeMap<(Verdict, String), u64> = BTreeMap::new();
+    let again = Again {
+        shuffled: &|asked| asked_again(oracle, &shuffled(asked)),
+        in_key_order: &|asked| asked_again(ordered?, std::slice::from_ref(asked)).pop(),
+    };
     with_answers(sets, |name, asked, answers| {
         let mut tally = Tally::default();
-        hold(&sides::PLAIN, name, asked, answers, &asking(oracle), &mut tally);
-        let order_shows = tally.pairs.keys().any(|(_, pair)| pair.contains("order of the maps"));
-        if order_shows || asked.set.rules.len() > 60 || answers.tree.nodes.len() > 200 {
+        hold(&sides::PLAIN, name, asked, answers, &again, &mut tally);
+        let says = |what: &str| tally.pairs.keys().any(|(_, pair)| pair.contains(what));
+        let wanted = says("in key order") == ordered.is_some() && !says("order of the maps");
+        if !wanted || asked.set.rules.len() > 60 || answers.tree.nodes.len() > 200 {
             return;
         }
         let built = tally.compared.contains_key("statements");

@@ -107,6 +107,26 @@ pub fn field(random: &mut Random, rules: u32, nodes: u32, edges: &mut [u32]) {
     row[place] = random.pick(&ends);
 }
 
+/// Swaps two rows, gives one the key of another, or puts one in twice; half the time neighbours.
+pub fn disorder(random: &mut Random, edges: &mut Vec<u32>) {
+    let rows = edges.len() / ROW;
+    if rows == 0 {
+        return;
+    }
+    let one = random.below(rows);
+    let other = if random.chance(50) { (one + 1) % rows } else { random.below(rows) };
+    let (one, other) = (ROW * one, ROW * other);
+    let row: Vec<u32> = edges[one..one + ROW].to_vec();
+    match random.below(3) {
+        0 => {
+            edges.copy_within(other..other + ROW, one);
+            edges[other..other + ROW].copy_from_slice(&row);
+        }
+        1 => edges[other..other + 3].copy_from_slice(&row[..3]),
+        _ => drop(edges.splice(other..other, row)),
+    }
+}
+
 /// Damage as it happens to statements and lists: one entry changed, dropped, doubled, swapped, or the rest cut off.
 pub fn mangle(random: &mut Random, words: &mut Vec<u32>, pool: &[u32]) {
     if words.is_empty() {

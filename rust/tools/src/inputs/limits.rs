@@ -70,15 +70,14 @@ pub fn many_nodes(count: usize) -> Grammar {
     let mut nodes = vec![0; count];
     nodes[1..3].copy_from_slice(&[1, 2]);
     let last = count as u32 - 1;
-    let rows = [row(&[0, 0, 10, last]), row(&[last, 0, 11, 1]), row(&[0, 0, 12, 2])];
+    let rows = [row(&[0, 0, 10, last]), row(&[0, 0, 12, 2]), row(&[last, 0, 11, 1])];
     with_tables(&two_rules(), nodes, rows.concat())
 }
 
-/// An edge table of so many rows; one way leads over the last, and one over a key that later rows have too.
+/// An edge table of so many rows; one way leads over the last.
 pub fn many_edges(count: usize) -> Grammar {
     let mut rows: Vec<[u32; ROW]> = (1..count as u32).map(|symbol| row(&[0, 0, symbol, 2])).collect();
     rows[9] = row(&[0, 0, 10, 3]);
-    rows[count / 2] = row(&[0, 0, 12, 1]);
     rows.push(row(&[3, 0, 11, 1]));
     with_tables(&two_rules(), vec![0, 1, 2, 0], rows.concat())
 }

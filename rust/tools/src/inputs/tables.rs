@@ -42,6 +42,13 @@ pub fn row(words: &[u32]) -> Row {
     row
 }
 
+/// The rows in the order of their keys; of those with one key the first stays.
+fn in_order(mut rows: Vec<&[u32]>) -> Vec<u32> {
+    rows.sort_by_key(|row| &row[..3]);
+    rows.dedup_by_key(|row| &row[..3]);
+    rows.concat()
+}
+
 /// Edges between any nodes, with any reduces.
 pub fn hand_made(random: &mut Random, set: &RuleSet) -> Grammar {
     let mut nodes = vec![0; random.between(1..=10)];
@@ -49,16 +56,13 @@ pub fn hand_made(random: &mut Random, set: &RuleSet) -> Grammar {
         *node = if random.chance(55) { 0 } else { any_rule(random, set) };
     }
     let rows: Vec<Row> = (0..random.between(0..=30)).filter_map(|_| any_row(random, set, &nodes)).collect();
-    with_tables(set, nodes, rows.concat())
+    with_tables(set, nodes, in_order(rows.iter().map(|row| &row[..]).collect()))
 }
 
-/// Built tables with rows put in (before others with the same key, at times), taken out, in another order, and leaves with other rules.
+/// Built tables with rows put in (for others with the same key, at times), taken out, and leaves with other rules.
 pub fn rearranged(random: &mut Random, set: &RuleSet, built: &Grammar) -> Grammar {
     let mut nodes = built.nodes.clone();
     let mut rows: Vec<&[u32]> = built.edges.chunks_exact(ROW).collect();
-    if random.chance(30) {
-        random.shuffle(&mut rows);
-    }
     if !rows.is_empty() && random.chance(30) {
         rows.swap_remove(random.below(rows.len()));
     }
@@ -70,8 +74,7 @@ pub fn rearranged(random: &mut Random, set: &RuleSet, built: &Grammar) -> Gramma
     for row in &new {
         rows.insert(random.below(rows.len() + 1), row);
     }
-    let edges = rows.concat();
-    with_tables(set, nodes, edges)
+    with_tables(set, nodes, in_order(rows))
 }
 
 /// The number of some rule; 0 if there are none.

@@ -1,6 +1,7 @@
 //! The generators make what they say.
 
 use super::commands::{fault, words};
+use super::damage::disorder;
 use super::gardens::{garden, samples, Garden};
 use super::limits;
 use super::packages::{bytes, counted, mixed_records, rearrange, records, with_item_fault, with_length_fault, Record};
@@ -134,6 +135,23 @@ fn made_tables_pass_the_table_check() {
             assert_eq!(number(&rearranged(&mut random, &set, &grammar), &[1]), 1);
         }
     }
+}
+
+#[test]
+fn disordered_tables_are_mostly_bad() {
+    let mut random = Random::new(4);
+    let grammars: Vec<Grammar> = sets(4)
+        .iter()
+        .filter_map(built)
+        .filter(|grammar| grammar.edges.len() > ROW)
+        .collect();
+    let count = grammars.len();
+    let disordered = grammars.into_iter().filter(|grammar| {
+        let mut grammar = grammar.clone();
+        disorder(&mut random, &mut grammar.edges);
+        number(&grammar, &[1]) == 8
+    });
+    assert!(disordered.count() > 3 * count / 4);
 }
 
 #[test]

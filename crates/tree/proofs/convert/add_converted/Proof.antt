@@ -14,7 +14,7 @@ returns-2 : tie.Need-returns-2
 returns-2 c =
     let st = c .before .before .before .before .before .before .before .before in
     let a = c .before .before .add-edge in
-    λ ns. converted-added (st .args .room) (st .args .c) ns (now (st .args .edges)) (st .args .from) (st .args .symbol) (st .args .added) (a .result) (a .last .1 .1 .1 .0) (not-false _ (c .before .before .before .before .before .if1 .left)) (a .ensures ns)
+    λ ns. converted-added (st .args .room) (st .args .c) ns (now (st .args .edges)) (st .args .from) (st .args .symbol) (st .args .added) (a .result) (a .last .1 .1 .1 .0) (not-false _ (c .before .before .before .before .before .if1 .left)) (a .ensures .0 ns)
 
 pub add-converted-spec : {M : Type 1} → statement M
 add-converted-spec = tie.close (tie.spec returns (λ c κs. search needs) (λ c. search needs) returns-2)

@@ -1,5 +1,5 @@
 use denote.Ref.{now}
-use Rattle.tree.proofs.Converting.{no-edge, an-edge}
+use Rattle.tree.proofs.Converting.{found-kind, no-edge, an-edge}
 use Rattle.tree.proofs.Laws.{row-readable, read-leads}
 use borrow.Author.Needs.{needs}
 use Rattle.tree.proofs.convert.convert_at.Statement.{statement}
@@ -20,8 +20,14 @@ convert-to-requires : tie.Need-convert-to-requires
 convert-to-requires c κs =
     let st = c .before .before .before .before .before .before .before .before .before .before .before in
     let found = rw (c .before .before .before .before .row .given .1) at (c .before .before .before .before .before .before .look .ensures) in
-    let e = c .before .read-row in
-    (st .pre .0, st .pre .1, read-leads (st .args .room) (st .args .c) (now (st .args .edges)) (c .before .before .before .before .row .given .0 .0) (e .result) (st .pre .0) (found .within) (e .ensures), e .ensures .fits)
+    let e = c .before .read-row in (
+      st .pre .0,
+      st .pre .1,
+      read-leads (st .args .room) (st .args .c) (now (st .args .edges)) (c .before .before .before .before .row .given .0 .0) (e .result) (st .pre .0) (found .within) (e .ensures),
+      e .ensures .fits,
+      found-kind (st .args .room) (st .args .c) (now (st .args .nodes)) (now (st .args .edges)) (st .pre .0) (st .args .change .rule .0) (st .args .change .result .0) (st .args .change .source .0) (st .args .n .0) (c .before .before .before .before .row .given .0 .0) (e .result) found (e .ensures),
+      st .pre .2,
+    )
 
 returns-2 : tie.Need-returns-2
 returns-2 c =

@@ -34,7 +34,7 @@ convert-at-requires : tie.Need-convert-at-requires Inv-loop μ-loop
 convert-at-requires c κs =
     let st = c .before .before .before .before .before in
     let l = c .before .before .loop in
-    (l .inv .rowed, omega (arith, l .inv .nodes-kept, st .pre .1))
+    (l .inv .rowed, omega (arith, l .inv .nodes-kept, st .pre .1), omega (arith, l .inv .nodes-kept, st .pre .2))
 
 returns : tie.Need-returns Inv-loop μ-loop
 returns c =

@@ -12,6 +12,11 @@ returns c =
     let st = c .before .before .before .before .before in
     inner-leaf (st .args .room) (st .args .c) (now (st .args .nodes)) (now (st .args .edges)) (st .pre .0) (st .args .n .0) (st .pre .1) (itemIs (st .args .item)) (failed (c .before .branch-at .ensures) (c .if1 .taken))
 
+new-branch-requires : tie.Need-new-branch-requires
+new-branch-requires c κs =
+    let st = c .before .before .before .before .before .before .before .before .before .before .before .before .before in
+    (st .pre .0, rw (c .before .before .enum-told .given .1) at (c .before .before .before .before .look .ensures))
+
 returns-2 : tie.Need-returns-2
 returns-2 c =
     let st = c .before .before .before .before .before .before .before .before .before .before .before .before .before .before .before .before .before .before in
@@ -45,7 +50,7 @@ place-inner-spec =
     (λ c κs. search needs)
     (λ c. search needs)
     (λ c. search needs)
-    (λ c κs. search needs)
+    new-branch-requires
     (λ c. search needs)
     (λ c. search needs)
     returns-2

@@ -18,6 +18,11 @@ returns-2 c =
     last-there (st .args .room) (st .args .c) (now (st .args .nodes)) (now (st .args .edges)) (st .pre .0) (st .args .n .0) (st .pre .1) (itemIs (st .args .item)) (passed (c .before .before .before .before .before .before .before .branch-at .ensures) (c .before .before .before .before .before .before .if1 .left)) (c .before .before .before .before .before .kind-of .result) (c .before .before .before .before .symbol-of .result .0) (c .before .before .before .before .before .kind-of .ensures) (c .before .before .before .before .symbol-of .ensures)
     (st .args .rule .0) (c .enum-told2 .given .0 .0) found
 
+add-node-requires : tie.Need-add-node-requires
+add-node-requires c κs =
+    let st = c .before .before .before .before .before .before .before .before .before .before .before .before .before in
+    (st .pre .0, rw (c .before .before .enum-told .given .1) at (c .before .before .before .before .look .ensures))
+
 returns-3 : tie.Need-returns-3
 returns-3 c =
     let st = c .before .before .before .before .before .before .before .before .before .before .before .before .before .before .before .before .before .before in
@@ -41,7 +46,7 @@ place-last-spec =
     (λ c. search needs)
     (λ c. search needs)
     returns-2
-    (λ c κs. search needs)
+    add-node-requires
     (λ c. search needs)
     (λ c. search needs)
     returns-3)

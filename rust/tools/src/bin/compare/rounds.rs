@@ -1,7 +1,7 @@
 //! What is compared, round by round.
 
 use plain::{Room, TOKEN_LIMIT};
-use tools::inputs::damage::{damage, field, mangle, word, words};
+use tools::inputs::damage::{damage, disorder, field, mangle, word, words};
 use tools::inputs::rules::{rename, rule_fault, rule_set, RuleSet};
 use tools::inputs::samples::edited_sample;
 use tools::inputs::sentences::{guided, noise, Grower, Sentence};
@@ -111,16 +111,18 @@ impl Comparison {
         self.guided_statement(&set, &other)
     }
 
-    /// One number of a table at the end of its range, or past it.
+    /// One number of a table at the end of its range, or past it, or rows that don't rise.
     fn faults(&mut self, set: &RuleSet, grammar: &Grammar) -> Compared {
         for _ in 0..3 {
             let mut grammar = grammar.clone();
             let (rules, nodes) = (set.rules.len() as u32, grammar.nodes.len() as u32);
-            if self.random.chance(20) {
-                let node = self.random.pick(&[0, grammar.nodes.len() - 1]);
-                grammar.nodes[node] = self.random.pick(&[0, 1, rules, rules + 1]);
-            } else {
-                field(&mut self.random, rules, nodes, &mut grammar.edges);
+            match self.random.weighted(&[20, 50, 30]) {
+                0 => {
+                    let node = self.random.pick(&[0, grammar.nodes.len() - 1]);
+                    grammar.nodes[node] = self.random.pick(&[0, 1, rules, rules + 1]);
+                }
+                1 => field(&mut self.random, rules, nodes, &mut grammar.edges),
+                _ => disorder(&mut self.random, &mut grammar.edges),
             }
             let tokens = noise(&mut self.random, set, 2);
             let call = Call::parse(&mut self.random, &grammar, &tokens, ample_rooms(&tokens));
