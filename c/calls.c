@@ -13,12 +13,14 @@ static const unsigned taken[ENTRIES] = {
     [BUILD] = BIT(RULES) | BIT(COMMANDS) | BIT(NODES) | BIT(EDGES) | BIT(FRAMES),
     [PARSE] = BIT(RULES) | BIT(NODES) | BIT(EDGES) | BIT(TOKENS) | BIT(FRAMES) | BIT(LIST) | BIT(WORK),
     [VERIFY] = BIT(RULES) | BIT(TOKENS) | BIT(LIST) | BIT(WORK),
+    [MANY] = BIT(RULES) | BIT(NODES) | BIT(EDGES) | BIT(TOKENS) | BIT(FRAMES) | BIT(LIST) | BIT(WORK) | BIT(ANSWERS) | BIT(INDEX),
 };
 
 static const unsigned written[ENTRIES] = {
     [BUILD] = BIT(NODES) | BIT(EDGES) | BIT(FRAMES),
     [PARSE] = BIT(FRAMES) | BIT(LIST) | BIT(WORK),
     [VERIFY] = BIT(WORK),
+    [MANY] = BIT(FRAMES) | BIT(LIST) | BIT(WORK) | BIT(ANSWERS) | BIT(INDEX),
 };
 
 int takes(int entry, int kind) {
@@ -71,6 +73,22 @@ static outcome ask_verify(const call *c, const slice *s) {
         s[WORK].words, s[WORK].length));
 }
 
+static outcome ask_many(const call *c, const slice *s) {
+    jiehkavon_batch r = jiehkavon_parse_many(
+        c->provable, c->logic,
+        s[RULES].words, s[RULES].length,
+        s[NODES].words, s[NODES].length,
+        s[EDGES].words, s[EDGES].length,
+        s[TOKENS].words, s[TOKENS].length,
+        c->number,
+        s[FRAMES].words, s[FRAMES].length,
+        s[LIST].words, s[LIST].length,
+        s[WORK].words, s[WORK].length,
+        s[ANSWERS].words, s[ANSWERS].length,
+        s[INDEX].words, s[INDEX].length);
+    return (outcome){{r.number, r.place, r.statements, r.words}};
+}
+
 outcome ask(const call *c) {
     switch (c->entry) {
     case BODY:
@@ -79,8 +97,10 @@ outcome ask(const call *c) {
         return ask_build(c, c->slices);
     case PARSE:
         return ask_parse(c, c->slices);
-    default:
+    case VERIFY:
         return ask_verify(c, c->slices);
+    default:
+        return ask_many(c, c->slices);
     }
 }
 
@@ -89,6 +109,10 @@ size_t meant(const call *c, outcome o, int kind) {
         return o.words[1];
     if (c->entry == BUILD && kind == EDGES)
         return (size_t)JIEHKAVON_ROW_WIDTH * o.words[2];
+    if (c->entry == MANY && kind == LIST)
+        return o.words[3];
+    if (c->entry == MANY && kind == ANSWERS)
+        return JIEHKAVON_ANSWER_WIDTH * o.words[2];
     return c->entry == PARSE && kind == LIST ? o.words[2] : 0;
 }
 

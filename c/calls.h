@@ -1,12 +1,14 @@
-/* The four entry points as one kind of call, so that a test can put any slice of any of them anywhere. */
+/* The entry points over words as one kind of call, so that a test can put any slice of any of them anywhere. */
 #ifndef CALLS_H
 #define CALLS_H
 
 #include <stddef.h>
 #include <stdint.h>
 
-enum { BODY, BUILD, PARSE, VERIFY, ENTRIES };
-enum { RULES, COMMANDS, NODES, EDGES, TOKENS, FRAMES, LIST, WORK, SLICES };
+enum { BODY, BUILD, PARSE, VERIFY, MANY, ENTRIES };
+
+/* Of a batch, the tokens are those of all statements, each with their number before them. */
+enum { RULES, COMMANDS, NODES, EDGES, TOKENS, FRAMES, LIST, WORK, ANSWERS, INDEX, SLICES };
 
 typedef struct slice {
     uint32_t *words;
@@ -16,13 +18,13 @@ typedef struct slice {
 typedef struct call {
     int entry;
     uint32_t provable, logic;
-    uint32_t number; /* the rule of a body, the allowance of a parse */
+    uint32_t number; /* the rule of a body, the allowance of a parse or a batch */
     slice slices[SLICES];
 } call;
 
 /* What comes back by value: the fields in order, zeros after them. */
 typedef struct outcome {
-    uint32_t words[4];
+    size_t words[4];
 } outcome;
 
 /* Whether the entry point is lent such a slice, and whether it may write to it. */

@@ -43,8 +43,8 @@ static int same_slices(const call *a, const call *b, outcome o) {
 
 static void say(int good, const call *c, int end, const char *what) {
     const slice *s = c->slices;
-    check(good, "%s: entry %d, end %d, lengths %zu %zu %zu %zu %zu %zu %zu %zu", what, c->entry, end, s[0].length, s[1].length, s[2].length,
-          s[3].length, s[4].length, s[5].length, s[6].length, s[7].length);
+    check(good, "%s: entry %d, end %d, lengths %zu %zu %zu %zu %zu %zu %zu %zu %zu %zu", what, c->entry, end, s[0].length, s[1].length,
+          s[2].length, s[3].length, s[4].length, s[5].length, s[6].length, s[7].length, s[8].length, s[9].length);
 }
 
 /* Whether ordinary memory gives the same. */
@@ -88,14 +88,16 @@ static call least(int entry, uint32_t number) {
     if (entry == BUILD)
         return build_e();
     c.slices[FRAMES] = garbage(1);
-    c.slices[LIST] = entry == PARSE ? garbage(3) : ten_passes_list;
+    c.slices[LIST] = entry == VERIFY ? ten_passes_list : garbage(entry == MANY ? many_s_list.length : 3);
     c.slices[WORK] = garbage(3);
+    c.slices[ANSWERS] = garbage(many_s_answers.length);
+    c.slices[INDEX] = garbage(S_FULL_INDEX);
     return c;
 }
 
 /* A call of each kind that is not refused. */
 static call accepted(int entry) {
-    static const uint32_t numbers[ENTRIES] = {[BODY] = 9, [PARSE] = 10};
+    static const uint32_t numbers[ENTRIES] = {[BODY] = 9, [PARSE] = 10, [MANY] = 10};
     return least(entry, numbers[entry]);
 }
 
@@ -129,13 +131,15 @@ static int next(size_t *lengths, const size_t *most) {
     return 0;
 }
 
-/* The set of one rule with these lengths. Edges go by half rows, for short, whole and left over ones. */
+/* The set of one rule with these lengths. Edges go by half rows, for short, whole and left over ones, answers by two words and the index by
+ * four, which is what it needs; the rest is a table of constants. */
 static call cut_one(int entry, uint32_t number, const size_t *lengths) {
-    const slice from[SLICES] = {rules_one, conversions, nodes_one, edges_one, tokens_one, garbage(0), list_one, garbage(0)};
+    static const size_t steps[SLICES] = {[EDGES] = JIEHKAVON_ROW_WIDTH / 2, [ANSWERS] = JIEHKAVON_ANSWER_WIDTH / 2, [INDEX] = 4};
+    const slice from[SLICES] = {rules_one, conversions, nodes_one, edges_one, entry == MANY ? many_one : tokens_one, {0}, list_one};
     call c = {.entry = entry, .provable = PROVABLE, .logic = LOGIC, .number = number};
     for (int kind = 0; kind < SLICES; kind++) {
         c.slices[kind].words = writes(entry, kind) ? garbage(0).words : from[kind].words;
-        c.slices[kind].length = lengths[kind] * (kind == EDGES ? JIEHKAVON_ROW_WIDTH / 2 : 1);
+        c.slices[kind].length = lengths[kind] * (steps[kind] > 0 ? steps[kind] : 1);
     }
     return c;
 }
@@ -155,11 +159,13 @@ static void check_small(const grounds *g) {
         [BUILD] = {[RULES] = 5, [COMMANDS] = 1, [NODES] = 3, [EDGES] = 5, [FRAMES] = 2},
         [PARSE] = {[RULES] = 5, [NODES] = 2, [EDGES] = 2, [TOKENS] = 2, [FRAMES] = 1, [LIST] = 2, [WORK] = 2},
         [VERIFY] = {[RULES] = 5, [TOKENS] = 2, [LIST] = 1, [WORK] = 2},
+        [MANY] = {[RULES] = 5, [NODES] = 2, [EDGES] = 2, [TOKENS] = 3, [LIST] = 1, [WORK] = 1, [ANSWERS] = 2, [INDEX] = 4},
     };
     check_combinations(g, BODY, 1, most[BODY]);
     check_combinations(g, BUILD, 0, most[BUILD]);
     check_combinations(g, PARSE, 2, most[PARSE]);
     check_combinations(g, VERIFY, 0, most[VERIFY]);
+    check_combinations(g, MANY, 2, most[MANY]);
 }
 
 /* splitmix64, from a fixed seed */
@@ -182,7 +188,7 @@ static void change(call *c) {
 }
 
 static void check_random(const grounds *g) {
-    for (int turn = 0; turn < 400; turn++) {
+    for (int turn = 0; turn < 500; turn++) {
         const call whole = accepted(turn % ENTRIES);
         call changed = own(&whole, 0);
         change(&changed);
@@ -191,16 +197,20 @@ static void check_random(const grounds *g) {
     }
 }
 
-/* The longest statement in the room that is always enough, and in the least; then one token more. */
+/* The longest statement in the room that is always enough, and in the least; then one token more. Alone, and as a batch. */
 static void check_long(const grounds *g) {
     const size_t rooms[][2] = {{LONG_LIST, LONGEST}, {LONGEST + 1, LONGEST}, {LONGEST, LONGEST}, {LONGEST + 1, LONGEST - 1}};
-    for (size_t i = 0; i < LENGTH(rooms); i++) {
-        call c = call_s(PARSE, JIEHKAVON_MOST_PASSES);
-        c.slices[LIST] = c.slices[WORK] = garbage(rooms[i][0]);
-        c.slices[FRAMES] = garbage(rooms[i][1]);
-        c.slices[TOKENS] = prefixes(LONGEST);
+    for (size_t i = 0; i < 2 * LENGTH(rooms); i++) {
+        const int entry = i % 2 == 0 ? PARSE : MANY;
+        slice (*const made)(size_t) = entry == PARSE ? prefixes : counted_prefixes;
+        call c = call_s(entry, JIEHKAVON_MOST_PASSES);
+        c.slices[LIST] = c.slices[WORK] = garbage(rooms[i / 2][0]);
+        c.slices[FRAMES] = garbage(rooms[i / 2][1]);
+        c.slices[ANSWERS] = garbage(JIEHKAVON_ANSWER_WIDTH);
+        c.slices[INDEX] = garbage(i < LENGTH(rooms) ? S_INDEX : S_FULL_INDEX);
+        c.slices[TOKENS] = made(LONGEST);
         check_on(g, &c);
-        c.slices[TOKENS] = prefixes(LONGEST + 1);
+        c.slices[TOKENS] = made(LONGEST + 1);
         check_on(g, &c);
     }
 }
@@ -296,7 +306,7 @@ void check_traps(void) {
     test("the forbidden pages can't be touched");
     open_grounds(&g, 1);
     for (int i = 0; i < ENDS * SLICES; i++) {
-        call c = accepted(PARSE);
+        call c = accepted(i / ENDS == COMMANDS ? BUILD : MANY);
         check_trap(&g, &c, i % ENDS, i / ENDS);
         c.slices[i / ENDS].length = 0;
         check_trap(&g, &c, i % ENDS, i / ENDS);

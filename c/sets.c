@@ -78,6 +78,11 @@ static const uint32_t one_nodes[] = {0, 1};
 static const uint32_t one_edge[16] = {0, 0, 10, 1};
 static const uint32_t one_tokens[] = {1, 10};
 static const uint32_t one_list[] = {1};
+static const uint32_t one_many[] = {2, 1, 10};
+
+static const uint32_t s_many[] = {6, 1, 5, 10, 7, 11, 6, 3, 1, 10, 10, 0, 2, 1, 10};
+static const uint32_t s_many_list[] = {1, 2, 7, 1};
+static const uint32_t s_many_answers[] = {0, 0, 3, 10, 2, 1, 0, 2, 1, 0, 0, 0, 0, 0, 1, 2};
 static const uint32_t conversion_words[] = {JIEHKAVON_TYPE_CONVERSIONS};
 
 const slice rules_s = WORDS(rule_words);
@@ -96,16 +101,20 @@ const slice nodes_one = WORDS(one_nodes);
 const slice edges_one = WORDS(one_edge);
 const slice tokens_one = WORDS(one_tokens);
 const slice list_one = WORDS(one_list);
+const slice many_one = WORDS(one_many);
+const slice many_s = WORDS(s_many);
+const slice many_s_list = WORDS(s_many_list);
+const slice many_s_answers = WORDS(s_many_answers);
 const slice conversions = WORDS(conversion_words);
 
 call call_s(int entry, uint32_t number) {
     call c = {.entry = entry, .provable = PROVABLE, .logic = LOGIC, .number = number};
     c.slices[RULES] = rules_s;
-    if (entry == PARSE) {
+    if (entry == PARSE || entry == MANY) {
         c.slices[NODES] = nodes_s;
         c.slices[EDGES] = edges_s;
     }
-    c.slices[TOKENS] = ten_passes;
+    c.slices[TOKENS] = entry == MANY ? many_s : ten_passes;
     return c;
 }
 
@@ -126,11 +135,17 @@ slice garbage(size_t length) {
     return (slice){words, length};
 }
 
-slice prefixes(size_t count) {
-    static uint32_t words[LONGEST + 3];
-    words[0] = PROVABLE;
-    for (size_t i = 1; i <= count; i++)
+slice counted_prefixes(size_t count) {
+    static uint32_t words[LONGEST + 4];
+    words[0] = (uint32_t)count + 2;
+    words[1] = PROVABLE;
+    for (size_t i = 2; i <= count + 1; i++)
         words[i] = 14;
-    words[count + 1] = 10;
-    return (slice){words, count + 2};
+    words[count + 2] = 10;
+    return (slice){words, count + 3};
+}
+
+slice prefixes(size_t count) {
+    const slice counted = counted_prefixes(count);
+    return (slice){counted.words + 1, counted.length - 1};
 }

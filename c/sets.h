@@ -26,13 +26,20 @@ extern const slice rules_e, path_e, nodes_e, edges_e, tokens_e, list_e;
 /* 1 5 10 7 11 6 and its list. */
 extern const slice ten_passes, ten_passes_list;
 
-/* 2: c10, its tree, and 1 10 with its list. */
-extern const slice rules_one, nodes_one, edges_one, tokens_one, list_one;
+/* 2: c10, its tree, and 1 10 with its list; the same as a batch of one. */
+extern const slice rules_one, nodes_one, edges_one, tokens_one, list_one, many_one;
+
+/* Four statements over set S: the ten-pass sentence, 1 10 10, no tokens, and 1 10; the lists of the two that are accepted, and all answers. */
+extern const slice many_s, many_s_list, many_s_answers;
+enum { S_RULES = 9, S_INDEX = S_RULES + S_NODES + 1 };
+
+/* The same with a table of the constants that leave node 0, of which 14 is the greatest. */
+enum { S_FULL_INDEX = S_INDEX + 15 };
 
 /* The conversions, asked for. */
 extern const slice conversions;
 
-/* A call over set S, with the ten-pass sentence and no room at all. */
+/* A call over set S, with the ten-pass sentence or, for a batch, the four statements, and no room at all. */
 call call_s(int entry, uint32_t number);
 
 /* A build of the set with the garden path, in garbage that is just enough. */
@@ -45,5 +52,8 @@ slice garbage(size_t length);
 /* The provable typecode, `count` times c14 of set S, and c10. The longest statement has LONGEST of c14, and one more makes it too long. */
 enum { LONGEST = JIEHKAVON_MOST_TOKENS - 2 };
 slice prefixes(size_t count);
+
+/* The same as a batch of one: its number of tokens, then its tokens. */
+slice counted_prefixes(size_t count);
 
 #endif

@@ -4,34 +4,9 @@
 #include <string.h>
 
 #include "check.h"
+#include "expect.h"
 #include "jiehkavon.h"
 #include "sets.h"
-
-/* What a slice has to hold afterwards; the rest of it is zero. */
-typedef struct expected {
-    outcome given;
-    slice front[SLICES];
-} expected;
-
-static int holds(slice s, slice front) {
-    if (front.length > s.length || (front.length > 0 && memcmp(s.words, front.words, front.length * sizeof(uint32_t)) != 0))
-        return 0;
-    for (size_t i = front.length; i < s.length; i++)
-        if (s.words[i] != 0)
-            return 0;
-    return 1;
-}
-
-/* One check for what comes back by value, one for each slice lent for writing. */
-static void check_call(const call *c, const expected *e, const char *what) {
-    call mine = own(c, 0);
-    outcome o = ask(&mine);
-    check(memcmp(&o, &e->given, sizeof o) == 0, "%s: gave %u %u %u %u", what, o.words[0], o.words[1], o.words[2], o.words[3]);
-    for (int kind = 0; kind < SLICES; kind++)
-        if (writes(c->entry, kind))
-            check(holds(mine.slices[kind], e->front[kind]), "%s: words left in slice %d", what, kind);
-    disown(&mine);
-}
 
 static void check_bodies(void) {
     static const uint32_t stretches[][3] = {

@@ -7,12 +7,14 @@
 #include "check.h"
 #include "guard.h"
 #include "jiehkavon.h"
+#include "many.h"
 #include "outside.h"
 #include "sheet.h"
 
 _Static_assert(sizeof(jiehkavon_answer) == 16, "four words");
 _Static_assert(sizeof(jiehkavon_built) == 12, "three words");
 _Static_assert(sizeof(jiehkavon_stretch) == 8, "two words");
+_Static_assert(sizeof(jiehkavon_batch) == 32, "a padded word and three sizes");
 
 int main(int count, char **arguments) {
     int blocks = count == 2 && strcmp(arguments[1], "blocks") == 0;
@@ -28,5 +30,6 @@ int main(int count, char **arguments) {
         check_in_pages();
     }
     check_sheet();
+    check_batches();
     return counted() ? 0 : 1;
 }

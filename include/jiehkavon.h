@@ -33,7 +33,7 @@ enum {
     JIEHKAVON_PASSES_USED_UP = 5,  /* a further pass is needed and the allowance is used up */
     JIEHKAVON_FRAMES_FULL = 6,     /* a frame is needed and the frame slice is full; of a parse, or of a garden path */
     JIEHKAVON_LIST_FULL = 7,       /* an entry is needed and the list or its work slice is full; or a package does not
-                                    * fit a slice lent for it */
+                                    * fit a slice lent for it, or a batch its answers or its index */
     JIEHKAVON_BAD_TABLES = 8,      /* the nodes or the edges are bad */
     JIEHKAVON_TOO_LONG = 9,        /* more than JIEHKAVON_MOST_TOKENS tokens */
     JIEHKAVON_BAD_RULES = 10,      /* the rules, or the two typecodes, are bad; one variable in two slots is */
@@ -47,7 +47,8 @@ enum {
     JIEHKAVON_TOO_MANY_TAKEN = 17, /* a garden path would take up more than JIEHKAVON_MOST_TAKEN edges */
     JIEHKAVON_BAD_LENGTH = 20,     /* a record's length is cut short, is under 2, or goes past the package */
     JIEHKAVON_UNKNOWN_KIND = 21,   /* there is no such kind of record */
-    JIEHKAVON_WRONG_SIZE = 22,     /* a record's body has a wrong size, or a statement can't be written */
+    JIEHKAVON_WRONG_SIZE = 22,     /* a record's body has a wrong size, a statement can't be written, or the statement
+                                    * words of a batch end within a statement */
     JIEHKAVON_WRONG_ORDER = 23     /* a record may not stand here, is missing, or comes after the end record */
 };
 
@@ -70,6 +71,7 @@ enum {
     JIEHKAVON_PATH_ITEM_WIDTH = 2, /* words of an item in a garden path: kind and symbol */
     JIEHKAVON_ROW_WIDTH = 16,      /* words of an edge: from, kind, symbol, to, count, five times rule and offset, 0 */
     JIEHKAVON_CLONE_WIDTH = 16,    /* words of a frame that a build is lent; one of a parse is a single word */
+    JIEHKAVON_ANSWER_WIDTH = 4,    /* words of a statement's answer in a batch: number, place, length, passes */
     JIEHKAVON_PASSES_A_TOKEN = 4,  /* passes for each token after the typecode that are always enough */
     JIEHKAVON_LIST_A_TOKEN = 18    /* words of the list, and of its work slice, likewise */
 };
@@ -91,7 +93,14 @@ static inline size_t jiehkavon_enough_list(size_t tokens) {
     return JIEHKAVON_LIST_A_TOKEN * jiehkavon_walked(tokens);
 }
 
-/* The same for the longest statement, as constants: so much is enough for every statement. */
+/* Words of the index that a batch needs, for so many rules and node words; it answers 7 with less. More change no
+ * answer, but those after these serve as a table of the constants that leave node 0, the first of them for constant 0,
+ * and save time: so many more as the greatest of these constants and one are all that can be used. */
+static inline size_t jiehkavon_enough_index(size_t rules, size_t nodes) {
+    return rules + nodes + 1;
+}
+
+/* Passes, frames and list words for the longest statement, as constants: so much is enough for every statement. */
 enum {
     JIEHKAVON_MOST_PASSES = JIEHKAVON_PASSES_A_TOKEN * (JIEHKAVON_MOST_TOKENS - 1),
     JIEHKAVON_MOST_FRAMES = JIEHKAVON_MOST_TOKENS - 2,
@@ -112,6 +121,14 @@ typedef struct jiehkavon_answer {
     uint32_t length; /* the words of the list; 0 if refused, and for a check */
     uint32_t passes; /* the passes used, a refused one among them; 0 if no walk was begun, and for a check */
 } jiehkavon_answer;
+
+/* What a batch answers. */
+typedef struct jiehkavon_batch {
+    uint32_t number;   /* JIEHKAVON_OK, or why not */
+    size_t place;      /* for 22 the statement that is not whole, counted from 0; else 0 */
+    size_t statements; /* how many statements were answered; 0 if refused */
+    size_t words;      /* the words of the list slice that are lists; 0 if refused */
+} jiehkavon_batch;
 
 /* What a build answers. */
 typedef struct jiehkavon_built {
@@ -170,6 +187,35 @@ jiehkavon_answer jiehkavon_parse(
     uint32_t *frames, size_t frames_length,
     uint32_t *list, size_t list_length,
     uint32_t *work, size_t work_length);
+
+/* Walks many statements through the tables. `statements` has for each the number of its tokens, then its tokens, which
+ * is how a package is read too. Rules and tables are checked once, and a rule or a node's rows are found by number.
+ *
+ * Each statement is answered as jiehkavon_parse answers it under the same rules, tables and allowance, with all of
+ * `frames` and of `work`, and with the part of `list` that the lists before it have left free. Its answer is
+ * JIEHKAVON_ANSWER_WIDTH words of `answers`: the fields of a jiehkavon_answer in their order. An accepted list begins
+ * where the one before it ends; a refused statement takes no words and does not stop the others. So a statement is
+ * never refused with 5, 6 or 7 where the allowance, `frames` and `work` are enough for the longest one and `list` has
+ * what is enough for each of them, added up. `index` is for the call alone, and needs jiehkavon_enough_index words;
+ * what is lent beyond makes it faster.
+ *
+ * The batch itself is refused by 10, then 8, then 22 where the words end within a statement, whose number is the place,
+ * then 7 for answers of fewer than four words a statement or an index that is too short; all else is a statement's own.
+ * If it is refused, all five slices lent for writing are zero. If not, the lists are at the front of `list` and the
+ * answers at the front of `answers`, zeros after them, and `frames`, `work` and `index` are zero. No statements at all
+ * are right too. */
+jiehkavon_batch jiehkavon_parse_many(
+    uint32_t provable, uint32_t logic,
+    const uint32_t *rules, size_t rules_length,
+    const uint32_t *nodes, size_t nodes_length,
+    const uint32_t *edges, size_t edges_length,
+    const uint32_t *statements, size_t statements_length,
+    uint32_t allowance,
+    uint32_t *frames, size_t frames_length,
+    uint32_t *list, size_t list_length,
+    uint32_t *work, size_t work_length,
+    uint32_t *answers, size_t answers_length,
+    uint32_t *index, size_t index_length);
 
 /* Checks a list, whoever made it: 0 exactly if its tree is well typed, has the wanted typecode and spells the
  * statement, else 4. Before that come 10, 1, 9, and 7 for a work slice shorter than the list. `work` is zero

@@ -45,7 +45,8 @@
 //! # }
 //! ```
 //!
-//! Rules and statements also come as one file, a [`Package`].
+//! Rules and statements also come as one file, a [`Package`]. Many statements are parsed faster by [`Parser::parse_many`], which gives the
+//! library many at once.
 //!
 //! Where one rule begins with what another one has a slot for, a tree alone goes wrong; [`Grammar::builder`] takes garden paths for that.
 //!
@@ -54,6 +55,7 @@
 
 #![deny(missing_docs, unsafe_code)]
 
+mod batch;
 mod commands;
 mod errors;
 mod formula;
@@ -68,6 +70,7 @@ mod tables;
 #[allow(unsafe_code)]
 pub mod words;
 
+pub use batch::ParseMany;
 pub use commands::{Command, GrammarBuilder};
 pub use errors::{BuildError, KeyTwice, ParseError, ReadError, RefusedRules, VerifyError, WriteError};
 pub use formula::{Formula, Preorder, Subtree, Tree};

@@ -30,6 +30,9 @@ pub const LABEL_WIDTH: usize = 2;
 /// The words of an edge.
 pub const ROW_WIDTH: usize = 16;
 
+/// The words of a statement's answer in a batch: its number, its place, the length of its list and its passes.
+pub const ANSWER_WIDTH: usize = 4;
+
 /// The edges that a garden path may take up.
 pub const MOST_TAKEN: usize = 16_384;
 

@@ -1,5 +1,6 @@
 //! Parsing with buffers that are kept.
 
+use crate::batch::{Batches, ParseMany};
 use crate::errors::{ParseError, VerifyError};
 use crate::formula::Formula;
 use crate::grammar::Grammar;
@@ -12,7 +13,7 @@ use crate::words;
 /// For n tokens after the typecode, and for any tables at all, no parse needs more than 4n passes, n - 1 frames and 18n list entries. These are
 /// theorems about the library: `four-n`, `frames-enough` and `list-enough` in `crates/desk/specs/laws/Promises.antt`. By `more-room` there, lending
 /// more would change no answer.
-#[derive(Clone, Copy, Debug, PartialEq, Eq)]
+#[derive(Clone, Copy, Debug, Default, PartialEq, Eq)]
 pub struct Room {
     /// How many passes the walk may take.
     pub allowance: u32,
@@ -49,9 +50,10 @@ pub struct Parsed<'p> {
 /// [`VerifyError::WorkTooShort`] never come back from here. They are there for callers of [`words`](crate::words) who lend less.
 #[derive(Clone, Debug, Default)]
 pub struct Parser {
-    frames: Vec<u32>,
-    work: Vec<u32>,
-    formula: Formula,
+    pub(crate) frames: Vec<u32>,
+    pub(crate) work: Vec<u32>,
+    pub(crate) formula: Formula,
+    pub(crate) batches: Batches,
 }
 
 impl Parser {
@@ -94,6 +96,38 @@ impl Parser {
                 passes: answer.passes,
             }),
         }
+    }
+
+    /// The answers of many statements, in their order: what [`Parser::parse`] says of each. Rules and tables are checked once for many of them, so
+    /// this is the faster way where there are more than a few.
+    ///
+    /// The statements are taken when their answers are asked for, by batches of at most 32,771 words, a word for each token and one for each
+    /// statement; that is room for any single statement. So the buffers stay within 16 MiB, however many statements there are, and a night of
+    /// 50,000 takes no more than the longest one alone.
+    ///
+    /// ```
+    /// # use jiehkavon::{Grammar, Label, Parser, Rules, Statement, Symbol};
+    /// # fn main() -> Result<(), Box<dyn std::error::Error>> {
+    /// # let (provable, logic, low) = (Symbol::try_from(1)?, Symbol::try_from(2)?, Symbol::try_from(10)?);
+    /// # let mut rules = Rules::new(provable, logic);
+    /// # rules.push_numbered(logic, &[Label::Constant(low)]);
+    /// # let grammar = Grammar::build(rules)?;
+    /// let statements = [vec![1, 10], vec![1, 10, 10], vec![2, 10]].map(Statement::from_words);
+    /// let mut parser = Parser::new();
+    /// let numbers: Vec<u32> = parser
+    ///     .parse_many(&grammar, &statements)
+    ///     .map(|answer| answer.map_or_else(|refusal| refusal.number(), |_formula| 0))
+    ///     .collect();
+    /// assert_eq!(numbers, [0, 2, 0]);
+    /// # Ok(())
+    /// # }
+    /// ```
+    pub fn parse_many<'p, I>(&'p mut self, grammar: &'p Grammar, statements: I) -> ParseMany<'p, I::IntoIter>
+    where
+        I: IntoIterator,
+        I::Item: AsRef<[u32]>,
+    {
+        ParseMany::new(self, grammar, statements.into_iter())
     }
 
     /// Whether a formula, whoever made it, is a well typed tree of the stated typecode that spells the statement.

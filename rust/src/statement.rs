@@ -46,6 +46,13 @@ impl Statement {
     }
 }
 
+/// The words, the typecode among them.
+impl AsRef<[u32]> for Statement {
+    fn as_ref(&self) -> &[u32] {
+        &self.words
+    }
+}
+
 /// The words in decimal, the typecode first: `1 5 10 7 11 6`.
 impl fmt::Display for Statement {
     fn fmt(&self, f: &mut fmt::Formatter<'_>) -> fmt::Result {

@@ -2,7 +2,7 @@
 
 use crate::errors::KeyTwice;
 use crate::limits::{MOST_REDUCES, ROW_WIDTH};
-use crate::numbers::{Label, NodeNo, RuleNo};
+use crate::numbers::{Label, NodeNo, RuleNo, Symbol};
 
 /// Nodes and edges of a tree, made by a build or brought from outside. The rows of the edges rise by their keys: the node that an edge leaves, then
 /// the label, constants before slots.
@@ -72,6 +72,13 @@ impl Tables {
             0 => Some(Node::Branch),
             rule => Some(Node::Leaf(RuleNo(rule))),
         }
+    }
+
+    /// How many words a table of the constants that leave node 0 has: one for each number up to the greatest. Bad tables may name none that is one.
+    pub(crate) fn constants_of_root(&self) -> usize {
+        let rows = self.edges.chunks_exact(ROW_WIDTH).take_while(|row| row.starts_with(&[0, 0]));
+        let greatest = rows.last().and_then(|row| Symbol::new(*row.get(2)?));
+        greatest.map_or(0, |symbol| 1 + usize::try_from(symbol.word()).unwrap_or(0))
     }
 
     /// The edges in row order, up to the first row whose words say none.

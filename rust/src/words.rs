@@ -29,6 +29,20 @@ pub struct Built {
     pub edges: u32,
 }
 
+/// What a batch answers.
+#[repr(C)]
+#[derive(Clone, Copy, Debug, PartialEq, Eq, Hash)]
+pub struct Batch {
+    /// 0, or the number of the refusal.
+    pub number: u32,
+    /// The statement that is not whole, counted from 0, where that is the refusal; else 0.
+    pub place: usize,
+    /// How many statements were answered; 0 for a refusal.
+    pub statements: usize,
+    /// How many words at the front of the list slice are lists; 0 for a refusal.
+    pub words: usize,
+}
+
 /// Where a rule's body stands in the rule slice; 0, 0 where there is no body.
 #[repr(C)]
 #[derive(Clone, Copy, Debug, PartialEq, Eq, Hash)]
@@ -72,7 +86,7 @@ pub struct Written {
 }
 
 mod c {
-    use super::{Answer, Built, Read, Stretch, Written};
+    use super::{Answer, Batch, Built, Read, Stretch, Written};
 
     extern "C" {
         pub fn jiehkavon_body(provable: u32, logic: u32, rules: *const u32, rules_length: usize, rule: u32) -> Stretch;
@@ -109,6 +123,29 @@ mod c {
             work: *mut u32,
             work_length: usize,
         ) -> Answer;
+        pub fn jiehkavon_parse_many(
+            provable: u32,
+            logic: u32,
+            rules: *const u32,
+            rules_length: usize,
+            nodes: *const u32,
+            nodes_length: usize,
+            edges: *const u32,
+            edges_length: usize,
+            statements: *const u32,
+            statements_length: usize,
+            allowance: u32,
+            frames: *mut u32,
+            frames_length: usize,
+            list: *mut u32,
+            list_length: usize,
+            work: *mut u32,
+            work_length: usize,
+            answers: *mut u32,
+            answers_length: usize,
+            index: *mut u32,
+            index_length: usize,
+        ) -> Batch;
         pub fn jiehkavon_verify(
             provable: u32,
             logic: u32,
@@ -218,6 +255,63 @@ pub fn parse(
             list.len(),
             work.as_mut_ptr(),
             work.len(),
+        )
+    }
+}
+
+/// The lists of many statements, one after another at the front of `list`, and an answer for each at the front of `answers`; or a refusal of
+/// them all.
+///
+/// `statements` has for each the number of its tokens, then its tokens. Rules and tables are checked once. Each statement is answered as [`parse`]
+/// answers it with the same allowance, the whole of `frames` and `work`, and the part of `list` that the lists before it have left free. An answer is
+/// [`ANSWER_WIDTH`](crate::limits::ANSWER_WIDTH) words, the fields of an [`Answer`] in their order. A refused statement takes no list words and doesn't
+/// stop the others.
+///
+/// The batch is refused with 10, then 8, then 22 where the words end within a statement, then 7 where `answers` has fewer than four words for each
+/// statement, or `index` fewer than one for each rule, one for each node, and one more. A refused one leaves zeros in all five slices. One that is not
+/// leaves zeros after the lists and after the answers, and in the other three.
+///
+/// What `index` has beyond that changes no answer. It serves as a table of the constants that leave node 0, the first word for constant 0, and makes
+/// the call faster: it is of use up to the greatest of them.
+#[allow(clippy::too_many_arguments)]
+pub fn parse_many(
+    provable: u32,
+    logic: u32,
+    rules: &[u32],
+    nodes: &[u32],
+    edges: &[u32],
+    statements: &[u32],
+    allowance: u32,
+    frames: &mut [u32],
+    list: &mut [u32],
+    work: &mut [u32],
+    answers: &mut [u32],
+    index: &mut [u32],
+) -> Batch {
+    // SAFETY: the slices are there for the call, and those lent for writing are apart from each other and from all that is read.
+    unsafe {
+        c::jiehkavon_parse_many(
+            provable,
+            logic,
+            rules.as_ptr(),
+            rules.len(),
+            nodes.as_ptr(),
+            nodes.len(),
+            edges.as_ptr(),
+            edges.len(),
+            statements.as_ptr(),
+            statements.len(),
+            allowance,
+            frames.as_mut_ptr(),
+            frames.len(),
+            list.as_mut_ptr(),
+            list.len(),
+            work.as_mut_ptr(),
+            work.len(),
+            answers.as_mut_ptr(),
+            answers.len(),
+            index.as_mut_ptr(),
+            index.len(),
         )
     }
 }

@@ -75,6 +75,30 @@ fn a_parser_that_has_grown_allocates_nothing() {
     assert_eq!(again, 0);
 }
 
+/// Every answer by batches.
+fn run_many(parser: &mut Parser, grammar: &Grammar, statements: &[Statement]) {
+    let mut answers = parser.parse_many(grammar, statements);
+    for statement in statements {
+        let answer = answers.next_parsed().expect("an answer").expect("a formula");
+        assert_eq!(answer.formula.len(), statement.words().len() - 1);
+    }
+    assert!(answers.next_parsed().is_none());
+}
+
+#[test]
+fn a_batch_allocates_nothing_once_its_buffers_have_grown() {
+    let grammar = grammar();
+    let mut statements = vec![Statement::default(); 100];
+    statements
+        .iter_mut()
+        .enumerate()
+        .for_each(|(count, statement)| fill(statement, count));
+    let mut parser = Parser::new();
+    assert!(allocations(|| run_many(&mut parser, &grammar, &statements)) > 0);
+    assert_eq!(allocations(|| run_many(&mut parser, &grammar, &statements)), 0);
+    assert_eq!(allocations(|| run_many(&mut parser, &grammar, &statements[20..60])), 0);
+}
+
 #[test]
 fn a_check_with_a_kept_parser_allocates_nothing() {
     let grammar = grammar();

@@ -3,12 +3,13 @@ use mathlib.Core.Path.{_≡_}
 use denote.Ref.{ptr, now}
 use Rattle.rules.specs.Code.{stretchOf}
 use Rattle.package.specs.Code.{readIs, writtenIs}
-use Rattle.desk.specs.Code.{builtIs, parsedIs, verifiedIs}
+use Rattle.desk.specs.Code.{builtIs, parsedIs, verifiedIs, batchIs}
 use Rattle.desk.specs.laws.Promises.{determined}
 use Rattle.desk.proofs.body.Reads as body
 use Rattle.desk.proofs.body_stretch.Reads as body-stretch
 use Rattle.desk.proofs.build.Reads as build
 use Rattle.desk.proofs.parse.Reads as parse
+use Rattle.desk.proofs.parse_many.Reads as parse-many
 use Rattle.desk.proofs.read.Reads as read
 use Rattle.desk.proofs.verify.Reads as verify
 use Rattle.desk.proofs.write.Reads as write
@@ -37,6 +38,14 @@ pub parse-determined : (κs : _) (args : _) (r₁ r₂ : _) (x₁ x₂ : _) → 
     → parsedIs r₁ (now (x₁ .1 .1 .1 .1 .1 .1 .0)) (now (x₁ .1 .1 .1 .1 .1 .1 .1 .0)) (now (x₁ .1 .1 .1 .1 .1 .1 .1 .1 .0))
     ≡ parsedIs r₂ (now (x₂ .1 .1 .1 .1 .1 .1 .0)) (now (x₂ .1 .1 .1 .1 .1 .1 .1 .0)) (now (x₂ .1 .1 .1 .1 .1 .1 .1 .1 .0))
 parse-determined κs args r₁ r₂ x₁ x₂ m n = determined m n
+
+-- from the seventh on: frames, lists, work, answers and index
+pub many-determined : (κs : _) (args : _) (r₁ r₂ : _) (x₁ x₂ : _) → parse-many.Post κs args r₁ x₁ → parse-many.Post κs args r₂ x₂
+    → batchIs r₁ (now (x₁ .1 .1 .1 .1 .1 .1 .0)) (now (x₁ .1 .1 .1 .1 .1 .1 .1 .0)) (now (x₁ .1 .1 .1 .1 .1 .1 .1 .1 .0))
+    (now (x₁ .1 .1 .1 .1 .1 .1 .1 .1 .1 .0)) (now (x₁ .1 .1 .1 .1 .1 .1 .1 .1 .1 .1 .0))
+    ≡ batchIs r₂ (now (x₂ .1 .1 .1 .1 .1 .1 .0)) (now (x₂ .1 .1 .1 .1 .1 .1 .1 .0)) (now (x₂ .1 .1 .1 .1 .1 .1 .1 .1 .0))
+    (now (x₂ .1 .1 .1 .1 .1 .1 .1 .1 .1 .0)) (now (x₂ .1 .1 .1 .1 .1 .1 .1 .1 .1 .1 .0))
+many-determined κs args r₁ r₂ x₁ x₂ m n = determined m n
 
 -- the second and the third parameter are the rule and the statement slice
 pub read-determined : (κs : _) (args : _) (r₁ r₂ : _) (x₁ x₂ : _) → read.Post κs args r₁ x₁ → read.Post κs args r₂ x₂

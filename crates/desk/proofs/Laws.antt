@@ -1,16 +1,18 @@
 -- What the entry points' proofs share: a result of the code as a value of its definition.
 use mathlib.Core.Path.{_≡_, refl, sym, _∙_, ap, subst}
-use mathlib.Core.Bool.{Bool, true, false}
-use mathlib.Core.List.{List, [], _∷_}
+use mathlib.Core.Bool.{Bool, true, false, not}
+use mathlib.Core.List.{List, [], _∷_, _++_}
 use mathlib.Core.Logic.{_≢_}
-use Prim.Native.Nat.{ℕ, zero, suc, _*_, _-_, _/_, _≤_}
+use Prim.Native.Nat.{ℕ, zero, suc, _*_, _-_, _/_, _≤_, _<_}
 use native.Mathlib.Nat.{sub-zero}
 use native.Mathlib.Omega.{arith}
 use lib.ListN.{length, getD, drop, take}
-use Rattle.words.specs.Limits.{mostNodes, mostEdges, rowWidth, mostTaken}
+use Rattle.words.specs.Limits.{mostTokens, mostNodes, mostEdges, rowWidth, mostTaken}
 use Rattle.words.specs.Lent.{zeros, padded, clearedFrom}
-use Rattle.words.specs.Outcome.{Res, lesser, demand, firstFault}
-use Rattle.words.specs.laws.Faults.{met, unmet}
+use Rattle.words.specs.Outcome.{Res, lesser, Demand, demand, firstFault}
+use lib.Dec.{ltb}
+use borrow.Author.Tests.{lt-ltb, le-ltb}
+use Rattle.words.specs.laws.Faults.{met, unmet, clear, fault-stays}
 use Rattle.words.specs.laws.Parts.{part-all}
 use Rattle.rules.specs.Rules.{theRules, rulesGood}
 use Rattle.rows.specs.Rows.{tablesGood}
@@ -19,7 +21,7 @@ use Rattle.walk.specs.Walk.{Walked, wantedOf, walk}
 use Rattle.walk.specs.Walk as passes
 use Rattle.walk.specs.Code.{Answers}
 use Rattle.walk.specs.declared.Walked as walked
-use Rattle.words.specs.Numbers.{accepted, badRules, misfit, number, Fault, faultNumber}
+use Rattle.words.specs.Numbers.{accepted, tooFewTokens, badTables, tooManyTokens, badRules, misfit, number, Fault, faultNumber}
 use Rattle.tree.specs.Grow.{Grown, Room}
 use Rattle.tree.specs.Code.{roomOf, faultOf, Holding, Grows}
 use Rattle.tree.specs.declared.Fault as why
@@ -30,7 +32,7 @@ use Rattle.tree.specs.declared.Room as lent
 use Rattle.garden.specs.Garden.{theCommands}
 use Rattle.garden.specs.Garden as garden
 use Rattle.garden.specs.Code.{boundsOf}
-use Rattle.desk.specs.Entry.{Built, notBuilt, buildRoom, gardenBounds, builtBy, buildAfter, buildGives, Asked, Lent, parsed, parseDemands, walkAfter, walkOf, verifyDemands, verifyGives}
+use Rattle.desk.specs.Entry.{Built, notBuilt, buildRoom, gardenBounds, builtBy, buildAfter, buildGives, Asked, Lent, parsed, groundDemands, parseDemands, walkAfter, walkOf, verifyDemands, verifyGives}
 use Rattle.desk.specs.Code.{builtIs, Raised, parsedIs, Tried}
 use Rattle.desk.specs.declared.Answer.{Answer}
 use Rattle.desk.specs.declared.Made.{Made}
@@ -171,6 +173,43 @@ module _ (q : Asked) (a : ℕ) (m : passes.Room) where
   unfolding walkOf
   tried-fault k list e z = rw (← e, refused-by k z)
       (record { number = refl; place = refl; counted = refl; passes = refl; within = omega arith; listed = refl })
+
+-- ---- rules and tables, before all else
+
+module _ (p l : ℕ) (rs ns es : List ℕ) where
+  pub grounds : firstFault (groundDemands p l rs ns es) ≡ 0 → (rulesGood p l rs ≡ true) × (tablesGood (length (theRules rs)) ns es ≡ true)
+  grounds h =
+      let a = clear _ badRules _ (omega arith) h in
+      let b = clear _ badTables _ (omega arith) (a .others) in
+      (a .passed, b .passed)
+
+  -- their refusal comes first
+  pub ground-first : (ds : List Demand) (k : ℕ) → k ≡ firstFault (groundDemands p l rs ns es) → k ≢ 0 → k ≡ firstFault (groundDemands p l rs ns es ++ ds)
+  ground-first ds zero e z = absurd (z refl)
+  ground-first ds (suc n) e z = sym (fault-stays (groundDemands p l rs ns es) ds n (sym e))
+
+  module _ (g : rulesGood p l rs ≡ true) (t : tablesGood (length (theRules rs)) ns es ≡ true) where
+    -- and where there is none the other demands decide
+    pub ground-passed : (ds : List Demand) → firstFault (groundDemands p l rs ns es ++ ds) ≡ firstFault ds
+    ground-passed ds = met g badRules _ ∙ met t badTables ds
+
+module _ (q : Asked) (g : rulesGood (q .provable) (q .logic) (q .rules) ≡ true) (t : tablesGood (length (theRules (q .rules))) (q .nodes) (q .edges) ≡ true) where
+  by-length : firstFault (parseDemands q) ≡ firstFault (demand (not (ltb (length (q .tokens)) 2)) tooFewTokens ∷ demand (not (ltb mostTokens (length (q .tokens)))) tooManyTokens ∷ [])
+  by-length = ground-passed (q .provable) (q .logic) (q .rules) (q .nodes) (q .edges) g t _
+
+  pub few-tokens : length (q .tokens) < 2 → tooFewTokens ≡ firstFault (parseDemands q)
+  few-tokens h = sym (by-length ∙ unmet (ap not (lt-ltb (length (q .tokens)) 2 h)) tooFewTokens _)
+
+  module _ (h : 2 ≤ length (q .tokens)) where
+    long : firstFault (parseDemands q) ≡ firstFault (demand (not (ltb mostTokens (length (q .tokens)))) tooManyTokens ∷ [])
+    long = by-length ∙ met (ap not (le-ltb (length (q .tokens)) 2 h)) tooFewTokens _
+
+    pub many-tokens : mostTokens < length (q .tokens) → tooManyTokens ≡ firstFault (parseDemands q)
+    many-tokens k = sym (long ∙ unmet (ap not (lt-ltb mostTokens (length (q .tokens)) k)) tooManyTokens [])
+
+    pub fit-tokens : length (q .tokens) ≤ mostTokens → firstFault (parseDemands q) ≡ 0
+    unfolding firstFault
+    fit-tokens k = long ∙ met (ap not (le-ltb mostTokens (length (q .tokens)) k)) tooManyTokens []
 
 -- what the walk answered, as what is answered
 pub tried-walk : (o w : Walked) (r : walked.Walked) (list : List ℕ) → Answers r list o → o ≡ w

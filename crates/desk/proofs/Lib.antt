@@ -1,2 +1,4 @@
 pub mod Laws
+pub mod Batching
 pub mod Determined
+mod Whole

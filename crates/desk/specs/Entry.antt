@@ -117,11 +117,16 @@ pub record Asked : Type 0 where
   pub edges : List ℕ
   pub tokens : List ℕ
 
+-- what is asked of rules and tables
+abbrev pub groundDemands : ℕ → ℕ → List ℕ → List ℕ → List ℕ → List Demand
+groundDemands provable logic rules nodes edges = demand (rulesGood provable logic rules) badRules
+    ∷ demand (tablesGood (length (theRules rules)) nodes edges) badTables
+    ∷ []
+
 -- in this order, then the walk
 abbrev pub parseDemands : Asked → List Demand
-parseDemands q = demand (rulesGood (q .provable) (q .logic) (q .rules)) badRules
-    ∷ demand (tablesGood (length (theRules (q .rules))) (q .nodes) (q .edges)) badTables
-    ∷ demand (not (ltb (length (q .tokens)) 2)) tooFewTokens
+parseDemands q = groundDemands (q .provable) (q .logic) (q .rules) (q .nodes) (q .edges)
+    ++ demand (not (ltb (length (q .tokens)) 2)) tooFewTokens
     ∷ demand (not (ltb mostTokens (length (q .tokens)))) tooManyTokens
     ∷ []
 

@@ -1,3 +1,4 @@
 pub mod Entry
+pub mod Batch
 pub mod Code
 pub mod laws

@@ -3,3 +3,4 @@ pub mod Examples
 pub mod Promises
 pub mod Ordered
 pub mod Packages
+pub mod Batches

@@ -1,4 +1,6 @@
 // The entry points. None asks anything of its caller: any words may come in any slice.
+mod many;
+
 ghost use mathlib.Core.Path.{_≡_};
 ghost use mathlib.Core.Bool.{true};
 ghost use Prim.Native.Nat.{_≤_};
@@ -8,8 +10,9 @@ ghost use Rattle.rules.specs.Code.{stretchOf, PartOf};
 ghost use Rattle.tree.specs.Code.{faultOf, roomOf};
 ghost use Rattle.words.specs.Numbers.{faultNumber};
 ghost use Rattle.package.specs.Code.{readIs, writtenIs};
-ghost use Rattle.desk.specs.Entry.{bodyGives, buildRoom, buildGives, parseDemands, walkRoom, walkOf, parseGives, verifyDemands, verifyGives, readGives, writeGives};
-ghost use Rattle.desk.specs.Code.{verifiedIs, builtIs, Raised, parsedIs, Tried, asked, lent};
+ghost use Rattle.desk.specs.Entry.{bodyGives, buildRoom, buildGives, groundDemands, walkRoom, walkOf, parseGives, verifyDemands, verifyGives, readGives, writeGives};
+ghost use Rattle.desk.specs.Batch.{batchGives};
+ghost use Rattle.desk.specs.Code.{verifiedIs, builtIs, Raised, parsedIs, Tried, Grounded, batchIs, asked, lent, askedMany, lentMany};
 
 // What a parse or a check answers: the number, the place, the length of the list and the passes.
 #[repr(C)]
@@ -18,6 +21,15 @@ pub struct Answer {
     pub place: u32,
     pub length: u32,
     pub passes: u32,
+}
+
+// What a batch answers: the number, the place, and the counts of statements and of list words.
+#[repr(C)]
+pub struct Batch {
+    pub number: u32,
+    pub place: usize,
+    pub statements: usize,
+    pub words: usize,
 }
 
 // What a build answers: the number, and the counts of nodes and edges.
@@ -149,7 +161,8 @@ fn judge(codes: rules::Codes, rules: &[u32], tokens: &[u32], list: &[u32], work:
         return words::NO_ENTRY;
     }
     let goal = walk::goal_of(codes, words::SymbolNo(tokens[0]));
-    if !formula::check(rules, goal, &tokens[1..], list, work) {
+    let none = &rules[0..0];
+    if !formula::check(rules, none, goal, &tokens[1..], list, work) {
         return words::MISFIT;
     }
     words::ACCEPTED
@@ -178,9 +191,9 @@ pub fn verify(
 
 // ---- parse
 
-// The number of the refusal before the walk, or that of no refusal.
-fn fault(codes: rules::Codes, rules: &[u32], nodes: &[u32], edges: &[u32], tokens: &[u32]) -> u32
-    ensures { λ r. ⌜ r ≡ firstFault (parseDemands (asked codes (now (rules .entry)) (now (nodes .entry)) (now (edges .entry)) (now (tokens .entry)))) ⌝ }
+// The number of the refusal of rules or tables, or that of no refusal.
+fn ground_fault(codes: rules::Codes, rules: &[u32], nodes: &[u32], edges: &[u32]) -> u32
+    ensures { λ r. ⌜ r ≡ firstFault (groundDemands (codes .provable .0) (codes .logic .0) (now (rules .entry)) (now (nodes .entry)) (now (edges .entry))) ⌝ }
 {
     if !rules::rules_good(rules, codes) {
         return words::BAD_RULES;
@@ -188,16 +201,69 @@ fn fault(codes: rules::Codes, rules: &[u32], nodes: &[u32], edges: &[u32], token
     if !rows::tables_good(rules::count(rules), nodes, edges) {
         return words::BAD_TABLES;
     }
-    if tokens.len() < 2 {
-        return words::TOO_FEW_TOKENS;
-    }
-    if words::MOST_TOKENS < tokens.len() {
-        return words::TOO_MANY_TOKENS;
-    }
     words::ACCEPTED
 }
 
-// The answer, and the list at the front of its slice: what else stands in the slices is not said.
+fn refused(number: u32) -> Answer
+    ensures { λ r. ⌜ r ≡ record { number = number; place = 0; length = 0; passes = 0 } ⌝ }
+{
+    Answer {
+        number,
+        place: 0,
+        length: 0,
+        passes: 0,
+    }
+}
+
+// The walk of a statement or the refusal of its length, over rules and tables that have passed their checks. The list stands at the front of
+// its slice; what else stands in the slices is not said.
+fn parse_one(
+    codes: rules::Codes,
+    rules: &[u32],
+    starts: &[u32],
+    nodes: &[u32],
+    edges: &[u32],
+    firsts: &[u32],
+    roots: &[u32],
+    tokens: &[u32],
+    allowance: u32,
+    frames: &mut [u32],
+    list: &mut [u32],
+    work: &mut [u32],
+) -> Answer
+    requires { ⌜ Grounded codes (now rules) (now starts) (now nodes) (now edges) (now firsts) (now roots) ⌝ }
+    ensures { λ r. ⌜ Tried (walkOf (asked codes (now (rules .entry)) (now (nodes .entry)) (now (edges .entry)) (now (tokens .entry))) allowance
+        (walkRoom (lent (now (frames .entry)) (now (list .entry)) (now (work .entry))))) r (now (list .exit)) ⌝ }
+{
+    if tokens.len() < 2 {
+        return refused(words::TOO_FEW_TOKENS);
+    }
+    if words::MOST_TOKENS < tokens.len() {
+        return refused(words::TOO_MANY_TOKENS);
+    }
+    let terms = walk::Terms { codes, allowance };
+    let w = walk::walk(
+        rules,
+        starts,
+        nodes,
+        edges,
+        firsts,
+        roots,
+        tokens,
+        terms,
+        frames,
+        list,
+        work,
+    );
+    Answer {
+        number: w.number,
+        place: w.place,
+        length: w.length,
+        passes: w.passes,
+    }
+}
+
+// The answer, and the list at the front of its slice: what else stands in the slices is not said. One statement is not worth an index.
 fn attempt(
     codes: rules::Codes,
     rules: &[u32],
@@ -212,23 +278,25 @@ fn attempt(
     ensures { λ r. ⌜ Tried (walkOf (asked codes (now (rules .entry)) (now (nodes .entry)) (now (edges .entry)) (now (tokens .entry))) allowance
         (walkRoom (lent (now (frames .entry)) (now (list .entry)) (now (work .entry))))) r (now (list .exit)) ⌝ }
 {
-    let number = fault(codes, rules, nodes, edges, tokens);
+    let number = ground_fault(codes, rules, nodes, edges);
     if number != words::ACCEPTED {
-        return Answer {
-            number,
-            place: 0,
-            length: 0,
-            passes: 0,
-        };
+        return refused(number);
     }
-    let terms = walk::Terms { codes, allowance };
-    let w = walk::walk(rules, nodes, edges, tokens, terms, frames, list, work);
-    Answer {
-        number: w.number,
-        place: w.place,
-        length: w.length,
-        passes: w.passes,
-    }
+    let none = &rules[0..0];
+    parse_one(
+        codes,
+        rules,
+        none,
+        nodes,
+        edges,
+        none,
+        none,
+        tokens,
+        allowance,
+        frames,
+        list,
+        work,
+    )
 }
 
 // The statement's list of rules, in postfix order, or a refusal. Frame and work slices are zero afterwards; so is the list slice, but for the
@@ -264,6 +332,49 @@ pub fn parse(
     words::clear(frames);
     words::clear(work);
     a
+}
+
+// ---- many statements
+
+// The statements' answers, four words for each, and their lists one after another: each as `parse` answers it with the part of the list slice
+// that is still free. Rules and tables are checked once. Zeros stand after answers and lists and in the other slices, and after a refusal
+// zeros alone.
+pub fn parse_many(
+    codes: rules::Codes,
+    rules: &[u32],
+    nodes: &[u32],
+    edges: &[u32],
+    statements: &[u32],
+    allowance: u32,
+    frames: &mut [u32],
+    list: &mut [u32],
+    work: &mut [u32],
+    answers: &mut [u32],
+    index: &mut [u32],
+) -> Batch
+    ensures { λ r. ⌜ batchIs r (now (frames .exit)) (now (list .exit)) (now (work .exit)) (now (answers .exit)) (now (index .exit))
+        ≡ batchGives (askedMany codes (now (rules .entry)) (now (nodes .entry)) (now (edges .entry)) (now (statements .entry))) allowance
+        (lentMany (now (frames .entry)) (now (list .entry)) (now (work .entry)) (now (answers .entry)) (now (index .entry))) ⌝ }
+{
+    let b = many::attempt(
+        codes,
+        rules,
+        nodes,
+        edges,
+        statements,
+        allowance,
+        frames,
+        list,
+        work,
+        answers,
+        index,
+    );
+    words::clear_from(list, b.words);
+    words::clear_from(answers, many::ANSWER_WIDTH * b.statements);
+    words::clear(frames);
+    words::clear(work);
+    words::clear(index);
+    b
 }
 
 // ---- packages

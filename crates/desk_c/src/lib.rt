@@ -5,7 +5,8 @@ ghost use lib.ListN.{length};
 ghost use Rattle.rules.specs.Code.{stretchOf};
 ghost use Rattle.package.specs.Code.{readIs, writtenIs};
 ghost use Rattle.desk.specs.Entry.{bodyGives, buildGives, parseGives, verifyGives, readGives, writeGives};
-ghost use Rattle.desk.specs.Code.{builtIs, parsedIs, verifiedIs, lent};
+ghost use Rattle.desk.specs.Batch.{batchGives};
+ghost use Rattle.desk.specs.Code.{builtIs, parsedIs, verifiedIs, batchIs, lent, lentMany};
 
 fn codes_of(provable: u32, logic: u32) -> rules::Codes
     ensures { λ r. ⌜ r ≡ record { provable = record { 0 = provable }; logic = record { 0 = logic } } ⌝ }
@@ -102,6 +103,49 @@ pub extern "C" fn jiehkavon_parse(
         frames,
         list,
         work,
+    )
+}
+
+// Many statements, each answered as a parse answers it.
+#[no_mangle]
+pub extern "C" fn jiehkavon_parse_many(
+    provable: u32,
+    logic: u32,
+    rules: &[u32],
+    nodes: &[u32],
+    edges: &[u32],
+    statements: &[u32],
+    allowance: u32,
+    frames: &mut [u32],
+    list: &mut [u32],
+    work: &mut [u32],
+    answers: &mut [u32],
+    index: &mut [u32],
+) -> desk::Batch
+    ensures { λ r. ⌜ batchIs r (now (frames .exit)) (now (list .exit)) (now (work .exit)) (now (answers .exit)) (now (index .exit))
+        ≡ batchGives (record {
+          provable = provable;
+          logic = logic;
+          rules = now (rules .entry);
+          nodes = now (nodes .entry);
+          edges = now (edges .entry);
+          statements = now (statements .entry);
+        }) allowance
+        (lentMany (now (frames .entry)) (now (list .entry)) (now (work .entry)) (now (answers .entry)) (now (index .entry))) ⌝ }
+{
+    let codes = codes_of(provable, logic);
+    desk::parse_many(
+        codes,
+        rules,
+        nodes,
+        edges,
+        statements,
+        allowance,
+        frames,
+        list,
+        work,
+        answers,
+        index,
     )
 }
 

@@ -9,7 +9,7 @@ ghost use Prim.Native.Nat.{_+_, _-_, _≤_};
 ghost use lib.ListN.{length, take, drop};
 ghost use Rattle.words.specs.Limits.{mostReduces};
 ghost use Rattle.rules.specs.Rules.{ruleOf, theRules};
-ghost use Rattle.rules.specs.Code.{aRule, someRules, itemIs};
+ghost use Rattle.rules.specs.Code.{aRule, someRules, Ruled, itemIs};
 ghost use Rattle.rows.specs.Code.{edgeIs};
 ghost use Rattle.formula.specs.Reducing.{reduce, reduceAll};
 ghost use Rattle.formula.specs.Check.{check};
@@ -34,6 +34,7 @@ pub enum Reduced {
 // over by their fields, as they were written: a copy of both at once waits for the two.
 pub fn reduce(
     rules: &[u32],
+    starts: &[u32],
     room: usize,
     list: &mut [u32],
     work: &mut [u32],
@@ -41,11 +42,11 @@ pub fn reduce(
     rule: words::RuleNo,
     offset: u32,
 ) -> Reduced
-    requires { ⌜ (someRules (now rules) ≡ true) × Inside room s (now list) (now work) ⌝ }
+    requires { ⌜ Ruled (now rules) (now starts) × Inside room s (now list) (now work) ⌝ }
     ensures { λ r. ⌜ Gives room r (now (list .exit)) (now (work .exit))
         (reduce (theRules (now (rules .entry))) room (rule .0) offset (treesOf s (now (list .entry)) (now (work .entry)))) ⌝ }
 {
-    let fit = sizes::measure(rules, room, work, s, rule, offset);
+    let fit = sizes::measure(rules, starts, room, work, s, rule, offset);
     match fit {
         sizes::Fit::At(place, t) => {
             words::insert(list, s.len, place, rule.0);
@@ -62,13 +63,14 @@ pub fn reduce(
 // The reduces of an edge, in order: the first that fails decides. The list's tail is moved once.
 pub fn reduce_all(
     rules: &[u32],
+    starts: &[u32],
     room: usize,
     list: &mut [u32],
     work: &mut [u32],
     s: Trees,
     e: rows::Edge,
 ) -> Reduced
-    requires { ⌜ (someRules (now rules) ≡ true) × Inside room s (now list) (now work) × (e .count ≤ mostReduces) ⌝ }
+    requires { ⌜ Ruled (now rules) (now starts) × Inside room s (now list) (now work) × (e .count ≤ mostReduces) ⌝ }
     ensures { λ r. ⌜ Gives room r (now (list .exit)) (now (work .exit))
         (reduceAll (theRules (now (rules .entry))) room (edgeIs e .reduces) (treesOf s (now (list .entry)) (now (work .entry)))) ⌝ }
 {
@@ -77,9 +79,9 @@ pub fn reduce_all(
     }
     if e.count == 1 {
         let d = rows::reduce_of(e, 0);
-        return reduce(rules, room, list, work, s, d.rule, d.offset); // alone, it needs no plan
+        return reduce(rules, starts, room, list, work, s, d.rule, d.offset); // alone, it needs no plan
     }
-    tail::reduce_at_once(rules, room, list, work, s, e)
+    tail::reduce_at_once(rules, starts, room, list, work, s, e)
 }
 
 // ---- the check
@@ -138,15 +140,22 @@ fn meet(tokens: &[u32], s: Seek, symbol: words::SymbolNo) -> Turn
 }
 
 // A slot: the last entry left must name a rule with this result, whose body is pending then.
-fn fill(rules: &[u32], list: &[u32], work: &mut [u32], s: Seek, wanted: words::SymbolNo) -> Turn
-    requires { ⌜ (someRules (now rules) ≡ true) × Stacked (now rules) (now list) s (now work) ⌝ }
+fn fill(
+    rules: &[u32],
+    starts: &[u32],
+    list: &[u32],
+    work: &mut [u32],
+    s: Seek,
+    wanted: words::SymbolNo,
+) -> Turn
+    requires { ⌜ Ruled (now rules) (now starts) × Stacked (now rules) (now list) s (now work) ⌝ }
     ensures { λ r. ⌜ Fills (now (rules .entry)) (now (list .entry)) (wanted .0) s (now (work .entry)) r (now (work .exit)) ⌝ }
 {
     let entry = s.entry;
     if entry == 0 {
         return Turn::Ended(false);
     }
-    let rules::Start::At(i) = rules::find_rule(rules, words::RuleNo(list[entry - 1])) else {
+    let rules::Start::At(i) = rules::find_rule(rules, starts, words::RuleNo(list[entry - 1])) else {
         return Turn::Ended(false);
     };
     let result = rules::result_of(&rules[i..]);
@@ -163,8 +172,15 @@ fn fill(rules: &[u32], list: &[u32], work: &mut [u32], s: Seek, wanted: words::S
 }
 
 // One turn: a body that is all met is taken off, else its last item is met.
-fn take_turn(rules: &[u32], tokens: &[u32], list: &[u32], work: &mut [u32], s: Seek) -> Turn
-    requires { ⌜ (someRules (now rules) ≡ true) × Stacked (now rules) (now list) s (now work) × (s .token ≤ length (now tokens)) ⌝ }
+fn take_turn(
+    rules: &[u32],
+    starts: &[u32],
+    tokens: &[u32],
+    list: &[u32],
+    work: &mut [u32],
+    s: Seek,
+) -> Turn
+    requires { ⌜ Ruled (now rules) (now starts) × Stacked (now rules) (now list) s (now work) × (s .token ≤ length (now tokens)) ⌝ }
     ensures { λ r. ⌜ Turned (now (rules .entry)) (now (tokens .entry)) (now (list .entry)) s
         (stillOf (now (rules .entry)) (now (tokens .entry)) (now (list .entry)) s (now (work .entry))) r (now (work .exit)) ⌝ }
 {
@@ -187,18 +203,25 @@ fn take_turn(rules: &[u32], tokens: &[u32], list: &[u32], work: &mut [u32], s: S
     work[top] = w - 1;
     match item {
         rules::Item::Con(symbol) => meet(tokens, s, symbol),
-        rules::Item::Slot(wanted) => fill(rules, list, work, s, wanted),
+        rules::Item::Slot(wanted) => fill(rules, starts, list, work, s, wanted),
     }
 }
 
 // Turns until one ends.
-fn run(rules: &[u32], tokens: &[u32], list: &[u32], work: &mut [u32], start: Seek) -> bool
-    requires { ⌜ (someRules (now rules) ≡ true) × Stacked (now rules) (now list) start (now work) × (start .token ≤ length (now tokens)) ⌝ }
+fn run(
+    rules: &[u32],
+    starts: &[u32],
+    tokens: &[u32],
+    list: &[u32],
+    work: &mut [u32],
+    start: Seek,
+) -> bool
+    requires { ⌜ Ruled (now rules) (now starts) × Stacked (now rules) (now list) start (now work) × (start .token ≤ length (now tokens)) ⌝ }
     ensures { λ r. ⌜ r ≡ stillOf (now (rules .entry)) (now (tokens .entry)) (now (list .entry)) start (now (work .entry)) ⌝ }
 {
     let mut s = start;
     loop {
-        let turn = take_turn(rules, tokens, list, work, s);
+        let turn = take_turn(rules, starts, tokens, list, work, s);
         match turn {
             Turn::On(q) => {
                 s = q;
@@ -213,12 +236,13 @@ fn run(rules: &[u32], tokens: &[u32], list: &[u32], work: &mut [u32], start: See
 // Whether the list is one well typed tree of typecode `goal` that spells the tokens: once over both, from their ends.
 pub fn check(
     rules: &[u32],
+    starts: &[u32],
     goal: words::SymbolNo,
     tokens: &[u32],
     list: &[u32],
     work: &mut [u32],
 ) -> bool
-    requires { ⌜ (someRules (now rules) ≡ true) × (length (now list) ≤ length (now work)) ⌝ }
+    requires { ⌜ Ruled (now rules) (now starts) × (length (now list) ≤ length (now work)) ⌝ }
     ensures { λ r. ⌜ r ≡ check (theRules (now (rules .entry))) (goal .0) (now (tokens .entry)) (now (list .entry)) ⌝ }
 {
     let start = Seek {
@@ -226,9 +250,9 @@ pub fn check(
         token: tokens.len(),
         entry: list.len(),
     };
-    let first = fill(rules, list, work, start, goal);
+    let first = fill(rules, starts, list, work, start, goal);
     match first {
-        Turn::On(s) => run(rules, tokens, list, work, s),
+        Turn::On(s) => run(rules, starts, tokens, list, work, s),
         Turn::Ended(b) => b,
     }
 }

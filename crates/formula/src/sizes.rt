@@ -1,12 +1,11 @@
 // The sizes of a walk's trees in its work slice, the bottom tree's first: what a reduce does to them, and where in the list its entry goes.
 use super::Trees;
 ghost use mathlib.Core.Path.{_≡_};
-ghost use mathlib.Core.Bool.{true};
 ghost use mathlib.Core.List.{_∷_, _++_};
 ghost use Prim.Native.Nat.{_+_, _-_, _≤_, _<_};
 ghost use lib.ListN.{length, take, drop};
 ghost use Rattle.rules.specs.Rules.{theRules};
-ghost use Rattle.rules.specs.Code.{someRules};
+ghost use Rattle.rules.specs.Code.{Ruled};
 ghost use Rattle.formula.specs.Code.{mostRoom};
 ghost use Rattle.formula.specs.Tail.{total, measure};
 ghost use Rattle.formula.specs.TailCode.{Sized, Joins, Measures};
@@ -72,19 +71,20 @@ fn join(room: usize, work: &mut [u32], s: Trees, k: usize, o: usize) -> usize
 // The rule under the top `offset` trees: too few trees before a full list. A rule that is not there has too few.
 pub fn measure(
     rules: &[u32],
+    starts: &[u32],
     room: usize,
     work: &mut [u32],
     s: Trees,
     rule: words::RuleNo,
     offset: u32,
 ) -> Fit
-    requires { ⌜ (someRules (now rules) ≡ true) × Sized room s (now work) ⌝ }
+    requires { ⌜ Ruled (now rules) (now starts) × Sized room s (now work) ⌝ }
     ensures { λ r. ⌜ Measures room s r (now (work .exit)) (measure (theRules (now (rules .entry))) room (rule .0) offset (take (s .count) (now (work .entry)))) ⌝ }
 {
-    let rules::Start::At(i) = rules::find_rule(rules, rule) else {
+    let rules::Start::At(i) = rules::find_rule(rules, starts, rule) else {
         return Fit::TooFew;
     };
-    let k = rules::slots_of(&rules[i..]) as usize;
+    let k = rules::slots_at(rules, starts, rule, i) as usize;
     let o = offset as usize;
     let needed = o + k;
     let count = s.count;

@@ -3,13 +3,12 @@ use super::Reduced;
 use super::Trees;
 use super::sizes;
 ghost use mathlib.Core.Path.{_≡_};
-ghost use mathlib.Core.Bool.{true};
 ghost use mathlib.Core.List.{[], _++_};
 ghost use Prim.Native.Nat.{_+_, _≤_, _<_};
 ghost use lib.ListN.{length, take, drop};
 ghost use Rattle.words.specs.Limits.{mostReduces};
 ghost use Rattle.rules.specs.Rules.{theRules};
-ghost use Rattle.rules.specs.Code.{someRules};
+ghost use Rattle.rules.specs.Code.{Ruled};
 ghost use Rattle.rows.specs.Code.{edgeIs};
 ghost use Rattle.formula.specs.Reducing.{reduceAll};
 ghost use Rattle.formula.specs.Code.{mostRoom, treesOf, Inside, Gives};
@@ -45,6 +44,7 @@ fn put(places: &mut [u32], entries: &mut [u32], n: usize, place: usize, rule: wo
 // What an edge's reduces come to on the sizes alone, in order: the first that fails decides. Their entries are left in the two slices.
 fn plan(
     rules: &[u32],
+    starts: &[u32],
     room: usize,
     work: &mut [u32],
     s: Trees,
@@ -52,7 +52,7 @@ fn plan(
     places: &mut [u32],
     entries: &mut [u32],
 ) -> Reduced
-    requires { ⌜ (someRules (now rules) ≡ true) × Sized room s (now work) × (e .count ≤ mostReduces)
+    requires { ⌜ Ruled (now rules) (now starts) × Sized room s (now work) × (e .count ≤ mostReduces)
         × (mostReduces ≤ length (now places)) × (mostReduces ≤ length (now entries)) ⌝ }
     ensures { λ r. ⌜ Plans room (e .count) r (now (work .exit)) (now (places .exit)) (now (entries .exit))
         (plan (theRules (now (rules .entry))) room (edgeIs e .reduces) (take (s .count) (now (work .entry))) []) ⌝ }
@@ -62,7 +62,7 @@ fn plan(
     let mut k: usize = 0;
     while k < n {
         let d = rows::reduce_of(e, k);
-        let fit = sizes::measure(rules, room, work, out, d.rule, d.offset);
+        let fit = sizes::measure(rules, starts, room, work, out, d.rule, d.offset);
         match fit {
             sizes::Fit::At(place, t) => {
                 put(places, entries, k, place, d.rule);
@@ -106,20 +106,21 @@ fn weave(list: &mut [u32], len: usize, places: &[u32], entries: &[u32], n: usize
 // The reduces of an edge, the list's tail moved once for all of them.
 pub fn reduce_at_once(
     rules: &[u32],
+    starts: &[u32],
     room: usize,
     list: &mut [u32],
     work: &mut [u32],
     s: Trees,
     e: rows::Edge,
 ) -> Reduced
-    requires { ⌜ (someRules (now rules) ≡ true) × Inside room s (now list) (now work) × (e .count ≤ mostReduces) ⌝ }
+    requires { ⌜ Ruled (now rules) (now starts) × Inside room s (now list) (now work) × (e .count ≤ mostReduces) ⌝ }
     ensures { λ r. ⌜ Gives room r (now (list .exit)) (now (work .exit))
         (reduceAll (theRules (now (rules .entry))) room (edgeIs e .reduces) (treesOf s (now (list .entry)) (now (work .entry)))) ⌝ }
 {
     let n = e.count as usize;
     let mut places: [u32; 5] = [0; 5];
     let mut entries: [u32; 5] = [0; 5];
-    let planned = plan(rules, room, work, s, e, &mut places, &mut entries);
+    let planned = plan(rules, starts, room, work, s, e, &mut places, &mut entries);
     match planned {
         Reduced::Done(t) => {
             weave(list, s.len, &places, &entries, n);

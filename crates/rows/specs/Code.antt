@@ -1,13 +1,14 @@
 -- What the code's structs and answers stand for.
-use Prim.Native.Nat.{ℕ, suc, _+_, _*_, _≤_}
+use Prim.Native.Nat.{ℕ, zero, suc, _+_, _*_, _/_, _≤_, _<_}
 use mathlib.Core.Path.{_≡_}
 use mathlib.Core.Bool.{true, false}
 use mathlib.Core.List.{List, [], _∷_, _++_, map}
 use mathlib.Core.Option.{none, some}
-use lib.ListN.{length, take, drop, set}
-use Rattle.words.specs.Limits.{rowWidth, mostReduces}
+use lib.ListN.{length, getD, take, drop, set}
+use Rattle.words.specs.Limits.{rowWidth, mostReduces, mostEdges}
 use Rattle.words.specs.Outcome.{pick}
-use Rattle.rows.specs.Rows.{Reduce, Edge, edgeOf, rowsFrom, edgesFrom, edgesOf, rowWords, edgeWords, below, keyed, withReduce}
+use Rattle.rules.specs.laws.Every.{All}
+use Rattle.rows.specs.Rows.{Reduce, Edge, edgeOf, rowsFrom, edgesFrom, edgesOf, rowWords, edgeWords, below, rising, keyed, withReduce}
 use Rattle.rows.specs.declared.Reduce as coded
 use Rattle.rows.specs.declared.Edge as held
 use Rattle.rows.specs.declared.Added.{Added}
@@ -80,3 +81,37 @@ numbered n k s i (e ∷ es) = pick (keyed n k s e) (Row i) (numbered n k s (i + 
 -- the row that a look-up gives back
 abbrev pub looksUp : List ℕ → ℕ → ℕ → ℕ → Found
 looksUp ws n k s = numbered n k s 0 (edgesOf ws)
+
+-- ---- an index: for each node one word, where its rows and where its variable edges start
+
+-- more than a table has rows
+abbrev pub mark : ℕ
+mark = 32768
+
+-- the words of `is` say it of the first nodes; an empty index of none
+abbrev pub Firsts : List ℕ → List ℕ → Type 0
+Firsts ws is = (n : ℕ) → n < length is → getD is n 0 ≡ placeOf n 0 0 (edgesOf ws) * mark + placeOf n 1 0 (edgesOf ws)
+
+-- rising rows, of the kinds that there are, with an index, which may be empty
+pub record Tabled (ws is : List ℕ) : Type 0 where
+  pub order : rising (edgesOf ws) ≡ true
+  pub kinds : All (λ e. e .kind ≤ 1) (edgesOf ws)
+  pub few : length ws / rowWidth ≤ mostEdges
+  pub firsts : Firsts ws is
+
+-- the rows of node n and kind k are those from `low` on, up to `high`
+pub record Spans (ws : List ℕ) (n k low high : ℕ) : Type 0 where
+  pub within : high ≤ length ws / rowWidth
+  pub alike : (i : ℕ) → low ≤ i → i < high → (edgeOf (rowAt ws i) .from ≡ n) × (edgeOf (rowAt ws i) .kind ≡ k)
+  pub all : (s i : ℕ) → looksUp ws n k s ≡ Row i → (low ≤ i) × (i < high)
+
+-- ---- a table of node 0's constant edges: for each symbol one word
+
+-- the row that a word names
+abbrev pub rowNamed : ℕ → Found
+rowNamed zero = Nothing
+rowNamed (suc i) = Row i
+
+-- the words name the rows of the first symbols; an empty table of none
+abbrev pub RootRows : List ℕ → List ℕ → Type 0
+RootRows ws rs = (t : ℕ) → t < length rs → rowNamed (getD rs t 0) ≡ looksUp ws 0 0 t

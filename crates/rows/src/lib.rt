@@ -1,12 +1,12 @@
 // Node and edge rows, look-up, reduce lists and the table check.
 ghost use mathlib.Core.Path.{_≡_};
 ghost use mathlib.Core.Bool.{true, not};
-ghost use Prim.Native.Nat.{_+_, _/_, _≤_, _<_};
+ghost use Prim.Native.Nat.{_+_, _/_, _%_, _≤_, _<_};
 ghost use lib.Dec.{ltb};
 ghost use lib.ListN.{length, getD, drop};
-ghost use Rattle.words.specs.Limits.{rowWidth, mostReduces, mostOffset};
+ghost use Rattle.words.specs.Limits.{rowWidth, mostReduces, mostOffset, mostNodes, mostEdges};
 ghost use Rattle.rows.specs.Rows.{edgeOf, rowsFrom, edgesOf, rowWords, below, precedes, rising, keyed, bare, goodNodes, goodPair, rootToLeaf, goodEnds, nodesGood, edgesGood, tablesGood};
-ghost use Rattle.rows.specs.Code.{reduceIs, edgeIs, Holds, Adds, rowAt, Spells, written, putIn, cleared, placeOf, looksUp};
+ghost use Rattle.rows.specs.Code.{reduceIs, edgeIs, Holds, Adds, rowAt, Spells, written, putIn, cleared, placeOf, looksUp, mark, Firsts, Tabled, Spans, rowNamed, RootRows};
 ghost use Rattle.rules.specs.laws.Every.{All};
 
 // An edge's places for reduces.
@@ -38,6 +38,15 @@ pub enum Found {
     Row(usize),
     Nothing,
 }
+
+// The rows from `low` on, up to `high`.
+struct Span {
+    low: usize,
+    high: usize,
+}
+
+// More than a table has rows. An index word is the first row of its node, times this, and the first of its variable edges.
+const MARK: u32 = 32768;
 
 // ---- rows
 
@@ -268,8 +277,8 @@ pub fn look_up(edges: &[u32], from: words::NodeNo, kind: u32, symbol: words::Sym
     Found::Nothing
 }
 
-// Whether any row leaves this node.
-pub fn leaves(edges: &[u32], from: words::NodeNo) -> bool
+// Whether any row leaves this node, looked for among all.
+fn leaves_any(edges: &[u32], from: words::NodeNo) -> bool
     requires { ⌜ rising (edgesOf (now edges)) ≡ true ⌝ }
     ensures { λ r. ⌜ r ≡ not (bare (edgesOf (now (edges .entry))) (from .0)) ⌝ }
 {
@@ -278,6 +287,188 @@ pub fn leaves(edges: &[u32], from: words::NodeNo) -> bool
         return false;
     }
     edges[words::ROW_WIDTH * row] == from.0
+}
+
+// ---- the look-up by an index of the nodes' rows
+
+// The first row of node `from`, or where it would stand.
+fn first_row(firsts: &[u32], from: usize) -> usize
+    requires { ⌜ from < length (now firsts) ⌝ }
+    ensures { λ r. ⌜ r ≡ getD (now (firsts .entry)) from 0 / mark ⌝ }
+{
+    (firsts[from] / MARK) as usize
+}
+
+// The first row of its variable edges, likewise.
+fn first_variable(firsts: &[u32], from: usize) -> usize
+    requires { ⌜ from < length (now firsts) ⌝ }
+    ensures { λ r. ⌜ r ≡ getD (now (firsts .entry)) from 0 % mark ⌝ }
+{
+    (firsts[from] % MARK) as usize
+}
+
+// The rows of this node and kind.
+fn span_of(edges: &[u32], firsts: &[u32], from: usize, kind: u32) -> Span
+    requires { ⌜ Tabled (now edges) (now firsts) × (from + 1 < length (now firsts)) × (kind ≤ 1) ⌝ }
+    ensures { λ r. ⌜ Spans (now (edges .entry)) from kind (r .low) (r .high) ⌝ }
+{
+    let variables = first_variable(firsts, from);
+    if kind == 0 {
+        return Span {
+            low: first_row(firsts, from),
+            high: variables,
+        };
+    }
+    Span {
+        low: variables,
+        high: first_row(firsts, from + 1),
+    }
+}
+
+// The row with this key among those of its node and kind, by halving. A half is taken or left by one comparison of symbols, without a jump.
+fn search(
+    edges: &[u32],
+    span: Span,
+    from: words::NodeNo,
+    kind: u32,
+    symbol: words::SymbolNo,
+) -> Found
+    requires { ⌜ (rising (edgesOf (now edges)) ≡ true) × Spans (now edges) (from .0) kind (span .low) (span .high) ⌝ }
+    ensures { λ r. ⌜ r ≡ looksUp (now (edges .entry)) (from .0) kind (symbol .0) ⌝ }
+{
+    if span.high <= span.low {
+        return Found::Nothing;
+    }
+    let mut row = span.low;
+    let mut size = span.high - row;
+    while 1 < size {
+        let half = size / 2;
+        if edges[words::ROW_WIDTH * (row + half) + 2] <= symbol.0 {
+            row += half;
+        }
+        size -= half;
+    }
+    if edges[words::ROW_WIDTH * row + 2] != symbol.0 {
+        return Found::Nothing;
+    }
+    Found::Row(row)
+}
+
+// The row with this key: among those of its node and kind, or among all where the index does not have the node.
+pub fn row_of(
+    edges: &[u32],
+    firsts: &[u32],
+    from: words::NodeNo,
+    kind: u32,
+    symbol: words::SymbolNo,
+) -> Found
+    requires { ⌜ Tabled (now edges) (now firsts) × (kind ≤ 1) ⌝ }
+    ensures { λ r. ⌜ r ≡ looksUp (now (edges .entry)) (from .0) kind (symbol .0) ⌝ }
+{
+    let node = from.0 as usize;
+    if firsts.len() <= node + 1 {
+        return look_up(edges, from, kind, symbol);
+    }
+    let span = span_of(edges, firsts, node, kind);
+    search(edges, span, from, kind, symbol)
+}
+
+// The row that a word of a table of symbols names: its number and one, or 0 for none.
+fn row_named(word: u32) -> Found
+    ensures { λ r. ⌜ r ≡ rowNamed word ⌝ }
+{
+    if word == 0 {
+        return Found::Nothing;
+    }
+    Found::Row((word - 1) as usize)
+}
+
+// The constant edge with this key. Node 0 has most of them and is asked most: its row is in the table, as far as that goes.
+pub fn constant_row(
+    edges: &[u32],
+    firsts: &[u32],
+    roots: &[u32],
+    from: words::NodeNo,
+    symbol: words::SymbolNo,
+) -> Found
+    requires { ⌜ Tabled (now edges) (now firsts) × RootRows (now edges) (now roots) ⌝ }
+    ensures { λ r. ⌜ r ≡ looksUp (now (edges .entry)) (from .0) 0 (symbol .0) ⌝ }
+{
+    let t = symbol.0 as usize;
+    if from.0 == 0 {
+        if t < roots.len() {
+            return row_named(roots[t]);
+        }
+    }
+    row_of(edges, firsts, from, 0, symbol)
+}
+
+// Whether any row leaves this node.
+pub fn leaves(edges: &[u32], firsts: &[u32], from: words::NodeNo) -> bool
+    requires { ⌜ Tabled (now edges) (now firsts) ⌝ }
+    ensures { λ r. ⌜ r ≡ not (bare (edgesOf (now (edges .entry))) (from .0)) ⌝ }
+{
+    let node = from.0 as usize;
+    if firsts.len() <= node + 1 {
+        return leaves_any(edges, from);
+    }
+    first_row(firsts, node) < first_row(firsts, node + 1)
+}
+
+// The first row from `row` on that is not lower than those of this node and kind.
+fn past(edges: &[u32], row: usize, from: words::NodeNo, kind: u32) -> usize
+    requires { ⌜ (rising (edgesOf (now edges)) ≡ true) × (row ≤ placeOf (from .0) kind 0 (edgesOf (now edges))) ⌝ }
+    ensures { λ r. ⌜ r ≡ placeOf (from .0) kind 0 (edgesOf (now (edges .entry))) ⌝ }
+{
+    let n = edges.len() / words::ROW_WIDTH;
+    let mut i = row;
+    while i < n {
+        let at = words::ROW_WIDTH * i;
+        if !row_below(
+            &edges[at..at + words::ROW_WIDTH],
+            from,
+            kind,
+            words::SymbolNo(0),
+        ) {
+            return i;
+        }
+        i += 1;
+    }
+    n
+}
+
+// The index of the rows, a word for each node and one more: once over all rows.
+pub fn index_rows(edges: &[u32], firsts: &mut [u32])
+    requires { ⌜ (rising (edgesOf (now edges)) ≡ true) × (length (now edges) / rowWidth ≤ mostEdges) × (length (now firsts) ≤ mostNodes + 1) ⌝ }
+    ensures { λ _. ⌜ Firsts (now (edges .entry)) (now (firsts .exit)) × (length (now (firsts .exit)) ≡ length (now (firsts .entry))) ⌝ }
+{
+    let mut node: u32 = 0;
+    let mut row = 0;
+    while (node as usize) < firsts.len() {
+        let from = words::NodeNo(node);
+        let first = past(edges, row, from, 0);
+        row = past(edges, first, from, 1);
+        firsts[node as usize] = (first as u32) * MARK + row as u32;
+        node += 1;
+    }
+}
+
+// The table of node 0's constant edges, a word for each symbol below its length.
+pub fn index_roots(edges: &[u32], roots: &mut [u32])
+    requires { ⌜ (rising (edgesOf (now edges)) ≡ true) × (length (now edges) / rowWidth ≤ mostEdges) ⌝ }
+    ensures { λ _. ⌜ RootRows (now (edges .entry)) (now (roots .exit)) × (length (now (roots .exit)) ≡ length (now (roots .entry))) ⌝ }
+{
+    words::clear(roots);
+    let low = past(edges, 0, words::NodeNo(0), 0);
+    let high = past(edges, low, words::NodeNo(0), 1);
+    let mut row = low;
+    while row < high {
+        let t = edges[words::ROW_WIDTH * row + 2] as usize;
+        row += 1;
+        if t < roots.len() {
+            roots[t] = row as u32;
+        }
+    }
 }
 
 // ---- the table check

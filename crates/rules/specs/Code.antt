@@ -1,15 +1,15 @@
 -- What the code's own types stand for, in the terms of the definitions.
-use Prim.Native.Nat.{ℕ, _+_, _*_, _-_, _≤_}
+use Prim.Native.Nat.{ℕ, _+_, _*_, _-_, _/_, _%_, _≤_, _<_}
 use mathlib.Core.Path.{_≡_}
 use mathlib.Core.Bool.{Bool, true}
 use mathlib.Core.List.{List}
 use mathlib.Core.Option.{Option, none, some}
-use lib.ListN.{length, drop}
+use lib.ListN.{length, getD, drop}
 use denote.Ref.{RefT, ptr, now}
 use Rattle.words.specs.Limits.{mostRules}
 use Rattle.words.specs.Outcome.{pick}
 use Rattle.words.specs.declared.RuleNo.{RuleNo}
-use Rattle.rules.specs.Rules.{Item, con, slot, sizeOf, theRules, ruleOf, ruleAt, goodRule, goodRules, rulesGood, Stretch, noStretch, stretchFrom, cut}
+use Rattle.rules.specs.Rules.{Item, con, slot, slots, sizeOf, theRules, ruleOf, ruleAt, goodRule, goodRules, rulesGood, Stretch, noStretch, stretchFrom, cut}
 use Rattle.rules.specs.declared.Codes.{Codes}
 use Rattle.rules.specs.declared.First.{First}
 use Rattle.rules.specs.declared.First.the-variants.{Size, Bad}
@@ -47,6 +47,26 @@ pub record Missing (ws : List ℕ) (n : ℕ) : Type 0 where
 abbrev pub Found : List ℕ → ℕ → Start → Type 0
 Found ws n (At i) = Starts ws n i
 Found ws n Nothing = Missing ws n
+
+-- ---- an index: for each rule one word, where it starts and how many slots it has
+
+-- more than a rule has slots
+abbrev pub mark : ℕ
+mark = 64
+
+-- the word w marks rule n
+pub record Marks (ws : List ℕ) (n w : ℕ) : Type 0 where
+  pub start : Starts ws n (w / mark)
+  pub slots : w % mark ≡ slots (ruleOf (drop (w / mark) ws) .body)
+
+-- the words of `is` mark the first rules; an empty index marks none
+abbrev pub Indexed : List ℕ → List ℕ → Type 0
+Indexed ws is = (n : ℕ) → n < length is → Marks ws (n + 1) (getD is n 0)
+
+-- good rules with an index, which may be empty
+pub record Ruled (ws is : List ℕ) : Type 0 where
+  pub good : someRules ws ≡ true
+  pub index : Indexed ws is
 
 -- an item that the code holds
 abbrev pub itemIs : coded.Item → Item

@@ -3,13 +3,16 @@ ghost use mathlib.Core.Path.{_≡_};
 ghost use mathlib.Core.Bool.{true};
 ghost use mathlib.Core.Option.{some};
 ghost use Prim.Native.Nat.{_+_, _*_, _≤_, _<_};
-ghost use lib.ListN.{length, getElem?};
+ghost use lib.ListN.{length, getElem?, drop};
 ghost use Rattle.words.specs.Limits.{mostItems, mostRules};
 ghost use Rattle.rules.specs.Rules.{itemWidth, sizeOf, bodyWords, itemsOf, variables, theRules, ruleOf, slots, source, symbol, third, goodItems, absent, distinct, goodBody, goodHead, equalEnds, goodRules, rulesGood, cut};
-ghost use Rattle.rules.specs.Code.{firstOf, aRule, someRules, Found, itemIs, sourceOf, stretchOf, bodyIn, PartOf};
+ghost use Rattle.rules.specs.Code.{firstOf, aRule, someRules, Starts, Found, Indexed, Ruled, itemIs, sourceOf, stretchOf, bodyIn, PartOf};
 
 // The words of an item: its kind, its symbol and its variable.
 pub const ITEM_WIDTH: usize = 3;
+
+// More than a rule has slots. An index word is where its rule starts, times this, and how many slots it has.
+const MARK: u32 = 64;
 
 // The two typecodes that come with the rules.
 pub struct Codes {
@@ -251,8 +254,8 @@ pub fn count(rules: &[u32]) -> u32
     n
 }
 
-// Where rule `no` starts.
-pub fn find_rule(rules: &[u32], no: words::RuleNo) -> Start
+// Where rule `no` starts, reached by stepping over those before it.
+fn step_to(rules: &[u32], no: words::RuleNo) -> Start
     requires { ⌜ someRules (now rules) ≡ true ⌝ }
     ensures { λ r. ⌜ Found (now (rules .entry)) (no .0) r ⌝ }
 {
@@ -267,6 +270,49 @@ pub fn find_rule(rules: &[u32], no: words::RuleNo) -> Start
         i += size_of(&rules[i..]);
     }
     Start::Nothing
+}
+
+// Where rule `no` starts: as the index says, and stepped to where the index has no such rule.
+pub fn find_rule(rules: &[u32], starts: &[u32], no: words::RuleNo) -> Start
+    requires { ⌜ Ruled (now rules) (now starts) ⌝ }
+    ensures { λ r. ⌜ Found (now (rules .entry)) (no .0) r ⌝ }
+{
+    let n = no.0 as usize;
+    if 0 < n {
+        if n <= starts.len() {
+            return Start::At((starts[n - 1] / MARK) as usize);
+        }
+    }
+    step_to(rules, no)
+}
+
+// The slots of rule `no`, which starts at word `i`.
+pub fn slots_at(rules: &[u32], starts: &[u32], no: words::RuleNo, i: usize) -> u32
+    requires { ⌜ Ruled (now rules) (now starts) × Starts (now rules) (no .0) i ⌝ }
+    ensures { λ r. ⌜ r ≡ slots (ruleOf (drop i (now (rules .entry))) .body) ⌝ }
+{
+    let n = no.0 as usize;
+    if 0 < n {
+        if n <= starts.len() {
+            return starts[n - 1] % MARK;
+        }
+    }
+    slots_of(&rules[i..])
+}
+
+// The index of the rules, one word for each.
+pub fn index_rules(rules: &[u32], starts: &mut [u32])
+    requires { ⌜ (someRules (now rules) ≡ true) × (length (now starts) ≡ length (theRules (now rules))) ⌝ }
+    ensures { λ _. ⌜ Indexed (now (rules .entry)) (now (starts .exit)) × (length (now (starts .exit)) ≡ length (now (starts .entry))) ⌝ }
+{
+    let mut n = 0;
+    let mut at = 0;
+    while at < rules.len() {
+        let slots = slots_of(&rules[at..]);
+        starts[n] = (at as u32) * MARK + slots;
+        at += size_of(&rules[at..]);
+        n += 1;
+    }
 }
 
 // ---- the items of a body
@@ -359,7 +405,7 @@ pub fn stretch_of(rules: &[u32], codes: Codes, no: words::RuleNo) -> Stretch
             length: 0,
         };
     }
-    let Start::At(i) = find_rule(rules, no) else {
+    let Start::At(i) = step_to(rules, no) else {
         return Stretch {
             start: 0,
             length: 0,

@@ -110,9 +110,9 @@ unfolding rootStep tablesOf
 step-root rs es room t s ls ws g = g
 
 -- what is asked of the row that a look-up finds
-pub slim-row : {rs es : List ℕ} → Fit rs es → (n k t : ℕ) {f : Found} → f ≡ looksUp es n k t → (row : ℕ) → f ≡ Row row
+pub slim-row : {rs is es js : List ℕ} → Fit rs is es js → (n k t : ℕ) {f : Found} → f ≡ looksUp es n k t → (row : ℕ) → f ≡ Row row
     → (row < length es / rowWidth) × (length (edgeOf (rowAt es row) .reduces) ≤ mostReduces)
-slim-row {rs} {es} h n k t l row e = let w = row-found es n k t l row e in (w .within, h .slim n k t (edgeOf (rowAt es row)) (w .finds))
+slim-row {es = es} h n k t l row e = let w = row-found es n k t l row e in (w .within, h .slim n k t (edgeOf (rowAt es row)) (w .finds))
 
 -- ---- a node that becomes a frame
 
@@ -349,8 +349,8 @@ stood-with q us =
     record { placed = record { begun = n .begun; token = n .token; frames = n .frames }; wish = q .wish }
 
 -- and is ready there
-pub ready-with : {rs es ts : List ℕ} {p : Stand} {ls ws : List ℕ} → Ready rs es ts p ls ws → {r : Reduced} {ls′ ws′ : List ℕ} {o : Res Why Trees}
-    → formula.Gives (p .room) r ls′ ws′ o → (us : held.Trees) → r ≡ Done us → Ready rs es ts (standAt p (withTrees (p .at) us)) ls′ ws′
+pub ready-with : {rs is es js ts : List ℕ} {p : Stand} {ls ws : List ℕ} → Ready rs is es js ts p ls ws → {r : Reduced} {ls′ ws′ : List ℕ} {o : Res Why Trees}
+    → formula.Gives (p .room) r ls′ ws′ o → (us : held.Trees) → r ≡ Done us → Ready rs is es js ts (standAt p (withTrees (p .at) us)) ls′ ws′
 ready-with h g us e = record {
   fit = h .fit;
   short = h .short;

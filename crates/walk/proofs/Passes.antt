@@ -17,7 +17,9 @@ use Rattle.rules.specs.Rules.{theRules, ruleAt, rulesGood}
 use Rattle.words.specs.laws.Tests.{by-test, lesser-le}
 use Rattle.rules.specs.laws.Words.{rules-good}
 use Rattle.rows.specs.Rows.{tablesGood}
-use Rattle.rows.specs.laws.Fair.{tables-fair}
+use Rattle.rules.specs.Code.{Indexed}
+use Rattle.rows.specs.Code.{Firsts}
+use Rattle.rows.specs.laws.Fair.{tables-tabled}
 use Rattle.words.specs.declared.RuleNo.{RuleNo}
 use Rattle.words.specs.declared.SymbolNo.{SymbolNo}
 use Rattle.formula.specs.Code as formula
@@ -86,14 +88,14 @@ module _ (next : Room → State → Res Why Turn) (m : Room) (n : ℕ) (s : Stat
   run-more (suc a) h = let e : suc a - 1 ≡ a = omega arith in rw (e, add-one n)
 
 -- what a walk has at every pass
-pub record Going (rs es ts : List ℕ) (room : ℕ) (s : At) (fs ls ws : List ℕ) : Type 0 where
-  pub fit : Fit rs es
+pub record Going (rs is es js ts : List ℕ) (room : ℕ) (s : At) (fs ls ws : List ℕ) : Type 0 where
+  pub fit : Fit rs is es js
   pub short : length ts ≤ mostTokens
   pub placed : Placed s ts fs
   pub inside : formula.Inside room (s .trees) ls ws
 
-pub going-start : {rs es : List ℕ} (ts fs ls ws : List ℕ) {room : ℕ} → Fit rs es → 1 ≤ length ts → length ts ≤ mostTokens → Lent room (length ls) (length ws)
-    → Going rs es ts room startAt fs ls ws
+pub going-start : {rs is es js : List ℕ} (ts fs ls ws : List ℕ) {room : ℕ} → Fit rs is es js → 1 ≤ length ts → length ts ≤ mostTokens → Lent room (length ls) (length ws)
+    → Going rs is es js ts room startAt fs ls ws
 going-start ts fs ls ws {room} f one most l = record {
   fit = f;
   short = most;
@@ -102,10 +104,10 @@ going-start ts fs ls ws {room} f one most l = record {
 }
 
 -- so it is ready for one, with what is wanted there
-pub going-ready : {rs es ts : List ℕ} (goal : SymbolNo) (room : ℕ) (s : At) {fs ls ws : List ℕ} → Going rs es ts room s fs ls ws
+pub going-ready : {rs is es js ts : List ℕ} (goal : SymbolNo) (room : ℕ) (s : At) {fs ls ws : List ℕ} → Going rs is es js ts room s fs ls ws
     → (w : Wish) → w ≡ wishOf (goal .0) (stack (s .frames) fs) →
     let p : Stand = record { goal = goal; wish = w; room = room; at = s } in
-    Ready rs es ts p ls ws × Stood p ts fs
+    Ready rs is es js ts p ls ws × Stood p ts fs
 going-ready goal room s {fs} g w e = (
   record {
     fit = g .fit;
@@ -118,7 +120,7 @@ going-ready goal room s {fs} g w e = (
   record { placed = g .placed; wish = e },
 )
 
-module _ (rs ns es ts : List ℕ) (h : Held) (fs₀ : List ℕ) where
+module _ (rs is ns es js ts : List ℕ) (h : Held) (fs₀ : List ℕ) where
   abbrev from : Room → ℕ → ℕ → State → Walked
   from m k n s = run (pass (tables rs ns es) (h .goal .0) (drop 1 ts)) k m n s
 
@@ -129,10 +131,10 @@ module _ (rs ns es ts : List ℕ) (h : Held) (fs₀ : List ℕ) where
   pub record Walking (s : At) (n : ℕ) (fs ls ws : List ℕ) : Type 0 where
     pub made : n ≤ h .allowance
     pub kept : length fs ≡ length fs₀
-    pub going : Going rs es ts (h .room) s fs ls ws
+    pub going : Going rs is es js ts (h .room) s fs ls ws
     pub same : from (roomOf (h .room) fs) (h .allowance - n) n (stateOf s ts fs ls ws) ≡ theWalk
 
-  pub walking-start : (ls ws : List ℕ) → Going rs es ts (h .room) startAt fs₀ ls ws → Walking startAt 0 fs₀ ls ws
+  pub walking-start : (ls ws : List ℕ) → Going rs is es js ts (h .room) startAt fs₀ ls ws → Walking startAt 0 fs₀ ls ws
   unfolding start stack
   walking-start ls ws r = record { made = omega arith; kept = refl; going = r; same = rw (sub-zero (h .allowance), trees-none ls ws) }
 
@@ -182,9 +184,14 @@ module _ (rs ns es ts : List ℕ) (h : Held) (fs₀ : List ℕ) where
 
 -- ---- the walk
 
-pub tables-fit : (p l : ℕ) (rs ns es : List ℕ) → rulesGood p l rs ≡ true → tablesGood (length (theRules rs)) ns es ≡ true → Fit rs es
+pub tables-fit : (p l : ℕ) (rs is ns es js : List ℕ) → rulesGood p l rs ≡ true → tablesGood (length (theRules rs)) ns es ≡ true
+    → Indexed rs is → Firsts es js → Fit rs is es js
 unfolding tablesOf
-tables-fit p l rs ns es r g = record { rules = rules-good p l rs r; order = tables-fair (length (theRules rs)) ns es g .order; slim = tables-slim (theRules rs) ns es g }
+tables-fit p l rs is ns es js r g x y = record {
+  rules = record { good = rules-good p l rs r; index = x };
+  rows = tables-tabled (length (theRules rs)) ns es js g y;
+  slim = tables-slim (theRules rs) ns es g;
+}
 
 pub room-lent : (l w room : ℕ) → room ≡ lesser (lesser l w) formula.mostRoom → Lent room l w
 room-lent l w room e =

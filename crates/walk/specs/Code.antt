@@ -10,8 +10,9 @@ use Rattle.words.specs.Limits.{mostReduces, mostTokens}
 use Rattle.words.specs.Outcome.{Res, ok, no, bind, pick}
 use Rattle.words.specs.Numbers as reasons
 use Rattle.rules.specs.Rules.{Rule, theRules, ruleAt, source}
-use Rattle.rules.specs.Code.{someRules}
-use Rattle.rows.specs.Rows.{Edge, edgesOf, rising, find}
+use Rattle.rules.specs.Code.{Ruled}
+use Rattle.rows.specs.Rows.{Edge, edgesOf, find}
+use Rattle.rows.specs.Code.{Tabled}
 use Rattle.formula.specs.Reducing.{reduce}
 use Rattle.formula.specs.declared.Trees as held
 use Rattle.formula.specs.Code as formula
@@ -86,10 +87,10 @@ pub record Gives (room : ℕ) (r : declared.Turn) (ts fs ls ws : List ℕ) (o : 
 
 -- ---- what a walk asks of its tables
 
--- good rules, rows that rise, and an edge that is found has at most five reduces
-pub record Fit (rs es : List ℕ) : Type 0 where
-  pub rules : someRules rs ≡ true
-  pub order : rising (edgesOf es) ≡ true
+-- good rules and good rows, each with an index, and an edge that is found has at most five reduces
+pub record Fit (rs is es js : List ℕ) : Type 0 where
+  pub rules : Ruled rs is
+  pub rows : Tabled es js
   pub slim : (n k t : ℕ) (e : Edge) → find (edgesOf es) n k t ≡ some e → length (e .reduces) ≤ mostReduces
 
 -- ---- what a pass goes by
@@ -115,8 +116,8 @@ pub record Stood (p : Stand) (ts fs : List ℕ) : Type 0 where
   pub wish : p .wish ≡ wishOf (p .goal .0) (stack (p .at .frames) fs)
 
 -- what every pass starts from, but for its frames
-pub record Ready (rs es ts : List ℕ) (p : Stand) (ls ws : List ℕ) : Type 0 where
-  pub fit : Fit rs es
+pub record Ready (rs is es js ts : List ℕ) (p : Stand) (ls ws : List ℕ) : Type 0 where
+  pub fit : Fit rs is es js
   pub short : length ts ≤ mostTokens
   pub begun : 1 ≤ p .at .token
   pub token : p .at .token ≤ length ts

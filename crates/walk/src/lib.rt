@@ -7,9 +7,9 @@ ghost use Rattle.words.specs.Limits.{rowWidth, mostReduces, mostTokens};
 ghost use Rattle.words.specs.Numbers.{number, place};
 ghost use Rattle.words.specs.Outcome.{lesser};
 ghost use Rattle.rules.specs.Rules.{theRules, ruleOf, rulesGood};
-ghost use Rattle.rules.specs.Code.{aRule, someRules};
-ghost use Rattle.rows.specs.Rows.{edgeOf, edgesOf, rising, tablesGood};
-ghost use Rattle.rows.specs.Code.{rowAt};
+ghost use Rattle.rules.specs.Code.{aRule, someRules, Indexed, Ruled};
+ghost use Rattle.rows.specs.Rows.{edgeOf, tablesGood};
+ghost use Rattle.rows.specs.Code.{rowAt, Firsts, Tabled, RootRows};
 ghost use Rattle.formula.specs.Code.{Inside};
 ghost use Rattle.walk.specs.Walk.{pass, run, start, wantedOf, walk};
 ghost use Rattle.walk.specs.Code.{stack, whyOf, wishOf, Wants, Converts, Chooses, choiceOf, Fit, Follows, Steps, Roots, Opens, Branches, Lies, Finishes, Bare, Stood, Ready, standAt, under, withTrees, atNode, Converted, Closes, Unwanted, Completes, Leaves, nodeIs, Passes, startAt, Lent, roomOf, tables, Answers};
@@ -140,13 +140,13 @@ fn wish_of(goal: words::SymbolNo, frames: &[u32], n: usize) -> Wish
     Wish::Frame(words::NodeNo(frames[n - 1]))
 }
 
-fn wanted(edges: &[u32], wish: Wish, t: words::SymbolNo) -> bool
-    requires { ⌜ rising (edgesOf (now edges)) ≡ true ⌝ }
+fn wanted(edges: &[u32], firsts: &[u32], wish: Wish, t: words::SymbolNo) -> bool
+    requires { ⌜ Tabled (now edges) (now firsts) ⌝ }
     ensures { λ r. ⌜ Wants (now (edges .entry)) wish (t .0) r ⌝ }
 {
     match wish {
         Wish::Goal(goal) => t.0 == goal.0,
-        Wish::Frame(top) => match rows::look_up(edges, top, 1, t) {
+        Wish::Frame(top) => match rows::row_of(edges, firsts, top, 1, t) {
             rows::Found::Row(_) => true,
             rows::Found::Nothing => false,
         },
@@ -154,8 +154,8 @@ fn wanted(edges: &[u32], wish: Wish, t: words::SymbolNo) -> bool
 }
 
 // Whether the rule that stands first is a conversion from `t` to a wanted typecode.
-fn converts(s: &[u32], edges: &[u32], wish: Wish, t: words::SymbolNo) -> bool
-    requires { ⌜ (aRule (now s) ≡ true) × (rising (edgesOf (now edges)) ≡ true) ⌝ }
+fn converts(s: &[u32], edges: &[u32], firsts: &[u32], wish: Wish, t: words::SymbolNo) -> bool
+    requires { ⌜ (aRule (now s) ≡ true) × Tabled (now edges) (now firsts) ⌝ }
     ensures { λ r. ⌜ Converts (now (edges .entry)) wish (ruleOf (now (s .entry))) (t .0) r ⌝ }
 {
     let rules::Conversion::From(u) = rules::conversion_of(s) else {
@@ -165,19 +165,25 @@ fn converts(s: &[u32], edges: &[u32], wish: Wish, t: words::SymbolNo) -> bool
         return false;
     }
     let to = rules::result_of(s);
-    wanted(edges, wish, to)
+    wanted(edges, firsts, wish, to)
 }
 
 // The first conversion in rule order from `t` to a wanted typecode.
-fn conversion(rules: &[u32], edges: &[u32], wish: Wish, t: words::SymbolNo) -> Chosen
-    requires { ⌜ (someRules (now rules) ≡ true) × (rising (edgesOf (now edges)) ≡ true) ⌝ }
+fn conversion(
+    rules: &[u32],
+    edges: &[u32],
+    firsts: &[u32],
+    wish: Wish,
+    t: words::SymbolNo,
+) -> Chosen
+    requires { ⌜ (someRules (now rules) ≡ true) × Tabled (now edges) (now firsts) ⌝ }
     ensures { λ r. ⌜ Chooses (now (edges .entry)) wish (theRules (now (rules .entry))) (t .0) r ⌝ }
 {
     let mut i = 0;
     let mut k: u32 = 0;
     while i < rules.len() {
         k += 1;
-        if converts(&rules[i..], edges, wish, t) {
+        if converts(&rules[i..], edges, firsts, wish, t) {
             let to = rules::result_of(&rules[i..]);
             let rule = words::RuleNo(k);
             return Chosen::By(Choice { rule, to });
@@ -196,13 +202,14 @@ fn conversion(rules: &[u32], edges: &[u32], wish: Wish, t: words::SymbolNo) -> C
 // The edge in this row is followed, its reduces first.
 fn follow(
     rules: &[u32],
+    starts: &[u32],
     edges: &[u32],
     row: usize,
     p: Stand,
     list: &mut [u32],
     work: &mut [u32],
 ) -> Turn
-    requires { ⌜ (someRules (now rules) ≡ true) × (row < length (now edges) / rowWidth)
+    requires { ⌜ Ruled (now rules) (now starts) × (row < length (now edges) / rowWidth)
         × (length (edgeOf (rowAt (now edges) row) .reduces) ≤ mostReduces) × Inside (p .room) (p .at .trees) (now list) (now work) ⌝ }
     ensures { λ r. ⌜ Follows (now (rules .entry)) (p .room) (edgeOf (rowAt (now (edges .entry)) row)) (p .at) (now (list .entry)) (now (work .entry))
         r (now (list .exit)) (now (work .exit)) ⌝ }
@@ -210,7 +217,7 @@ fn follow(
     let e = rows::read_row(edges, row);
     let mut s = p.at;
     let trees = s.trees;
-    let r = formula::reduce_all(rules, p.room, list, work, trees, e);
+    let r = formula::reduce_all(rules, starts, p.room, list, work, trees, e);
     match r {
         formula::Reduced::Done(reduced) => {
             let node = e.to;
@@ -237,22 +244,24 @@ fn onward(edges: &[u32], row: usize, s: At) -> At
 // The variable edge of node `from` for `t` is followed; none, no rule goes on.
 fn step(
     rules: &[u32],
+    starts: &[u32],
     edges: &[u32],
+    firsts: &[u32],
     from: words::NodeNo,
     t: words::SymbolNo,
     p: Stand,
     list: &mut [u32],
     work: &mut [u32],
 ) -> Turn
-    requires { ⌜ Fit (now rules) (now edges) × Inside (p .room) (p .at .trees) (now list) (now work) ⌝ }
+    requires { ⌜ Fit (now rules) (now starts) (now edges) (now firsts) × Inside (p .room) (p .at .trees) (now list) (now work) ⌝ }
     ensures { λ r. ⌜ Steps (now (rules .entry)) (now (edges .entry)) (p .room) (from .0) (t .0) (p .at) (now (list .entry)) (now (work .entry))
         r (now (list .exit)) (now (work .exit)) ⌝ }
 {
-    let rows::Found::Row(row) = rows::look_up(edges, from, 1, t) else {
+    let rows::Found::Row(row) = rows::row_of(edges, firsts, from, 1, t) else {
         return Turn::Stop(Why::Unparseable(p.at.last));
     };
     if rows::has_reduces(edges, row) {
-        let turn = follow(rules, edges, row, p, list, work);
+        let turn = follow(rules, starts, edges, row, p, list, work);
         return turn;
     }
     let s = p.at;
@@ -262,17 +271,29 @@ fn step(
 // Root step: node 0's variable edge for `t` is followed.
 fn root_step(
     rules: &[u32],
+    starts: &[u32],
     edges: &[u32],
+    firsts: &[u32],
     t: words::SymbolNo,
     p: Stand,
     list: &mut [u32],
     work: &mut [u32],
 ) -> Turn
-    requires { ⌜ Fit (now rules) (now edges) × Inside (p .room) (p .at .trees) (now list) (now work) ⌝ }
+    requires { ⌜ Fit (now rules) (now starts) (now edges) (now firsts) × Inside (p .room) (p .at .trees) (now list) (now work) ⌝ }
     ensures { λ r. ⌜ Roots (now (rules .entry)) (now (edges .entry)) (p .room) (t .0) (p .at) (now (list .entry)) (now (work .entry))
         r (now (list .exit)) (now (work .exit)) ⌝ }
 {
-    step(rules, edges, words::NodeNo(0), t, p, list, work)
+    step(
+        rules,
+        starts,
+        edges,
+        firsts,
+        words::NodeNo(0),
+        t,
+        p,
+        list,
+        work,
+    )
 }
 
 // The top frame is popped.
@@ -301,8 +322,8 @@ fn regrown(p: Stand, trees: formula::Trees) -> Stand
 // ---- a pass at a branch
 
 // No constant edge: the node becomes a frame and the walk goes to node 0. Not so node 0 itself, or a node with no edges.
-fn open_frame(edges: &[u32], s: At, frames: &mut [u32]) -> Turn
-    requires { ⌜ (s .token ≤ mostTokens) × (rising (edgesOf (now edges)) ≡ true) ⌝ }
+fn open_frame(edges: &[u32], firsts: &[u32], s: At, frames: &mut [u32]) -> Turn
+    requires { ⌜ (s .token ≤ mostTokens) × Tabled (now edges) (now firsts) ⌝ }
     ensures { λ r. ⌜ Opens (now (edges .entry)) s (now (frames .entry)) r (now (frames .exit)) ⌝ }
 {
     let place = s.token as u32;
@@ -310,7 +331,7 @@ fn open_frame(edges: &[u32], s: At, frames: &mut [u32]) -> Turn
     if node.0 == 0 {
         return Turn::Stop(Why::Unparseable(place));
     }
-    if !rows::leaves(edges, node) {
+    if !rows::leaves(edges, firsts, node) {
         return Turn::Stop(Why::Unparseable(place));
     }
     let n = s.frames;
@@ -331,14 +352,17 @@ fn open_frame(edges: &[u32], s: At, frames: &mut [u32]) -> Turn
 // At a token, its constant edge is followed and the token taken.
 fn branch(
     rules: &[u32],
+    starts: &[u32],
     edges: &[u32],
+    firsts: &[u32],
+    roots: &[u32],
     tokens: &[u32],
     p: Stand,
     frames: &mut [u32],
     list: &mut [u32],
     work: &mut [u32],
 ) -> Turn
-    requires { ⌜ Ready (now rules) (now edges) (now tokens) p (now list) (now work) × Stood p (now tokens) (now frames) ⌝ }
+    requires { ⌜ Ready (now rules) (now starts) (now edges) (now firsts) (now tokens) p (now list) (now work) × Stood p (now tokens) (now frames) × RootRows (now edges) (now roots) ⌝ }
     ensures { λ r. ⌜ Branches (now (rules .entry)) (now (edges .entry)) (now (tokens .entry)) (p .room) (p .at)
         (now (frames .entry)) (now (list .entry)) (now (work .entry)) r (now (frames .exit)) (now (list .exit)) (now (work .exit)) ⌝ }
 {
@@ -347,15 +371,21 @@ fn branch(
     if tokens.len() <= i {
         return Turn::Stop(Why::TooShort((i - 1) as u32));
     }
-    let rows::Found::Row(row) = rows::look_up(edges, s.node, 0, words::SymbolNo(tokens[i])) else {
-        return open_frame(edges, s, frames);
+    let rows::Found::Row(row) = rows::constant_row(
+        edges,
+        firsts,
+        roots,
+        s.node,
+        words::SymbolNo(tokens[i]),
+    ) else {
+        return open_frame(edges, firsts, s, frames);
     };
     s.token = i + 1;
     s.last = i as u32;
     let mut taken = p;
     taken.at = s;
     if rows::has_reduces(edges, row) {
-        let turn = follow(rules, edges, row, taken, list, work);
+        let turn = follow(rules, starts, edges, row, taken, list, work);
         return turn;
     }
     Turn::On(onward(edges, row, s))
@@ -366,13 +396,14 @@ fn branch(
 // One tree must be left, and it must pass the check.
 fn finish(
     rules: &[u32],
+    starts: &[u32],
     tokens: &[u32],
     goal: words::SymbolNo,
     trees: formula::Trees,
     list: &[u32],
     work: &mut [u32],
 ) -> Turn
-    requires { ⌜ (someRules (now rules) ≡ true) × (1 ≤ length (now tokens)) × Lies trees (now list) (now work) ⌝ }
+    requires { ⌜ Ruled (now rules) (now starts) × (1 ≤ length (now tokens)) × Lies trees (now list) (now work) ⌝ }
     ensures { λ r. ⌜ Finishes (now (rules .entry)) (goal .0) (now (tokens .entry)) trees (now (list .entry)) (now (work .entry))
         r (now (work .exit)) ⌝ }
 {
@@ -380,7 +411,7 @@ fn finish(
         return Turn::Stop(Why::Misfit);
     }
     let n = trees.len;
-    if !formula::check(rules, goal, &tokens[1..], &list[0..n], work) {
+    if !formula::check(rules, starts, goal, &tokens[1..], &list[0..n], work) {
         return Turn::Stop(Why::Misfit);
     }
     Turn::End(n)
@@ -389,13 +420,15 @@ fn finish(
 // A conversion to `t` is reduced: without a frame the walk finishes; else the top one is popped and its edge for `t` followed.
 fn converted(
     rules: &[u32],
+    starts: &[u32],
     edges: &[u32],
+    firsts: &[u32],
     tokens: &[u32],
     g: Grown,
     list: &mut [u32],
     work: &mut [u32],
 ) -> Turn
-    requires { ⌜ Ready (now rules) (now edges) (now tokens) (g .stand) (now list) (now work) ⌝ }
+    requires { ⌜ Ready (now rules) (now starts) (now edges) (now firsts) (now tokens) (g .stand) (now list) (now work) ⌝ }
     ensures { λ r. ⌜ Converted (now (rules .entry)) (now (edges .entry)) (now (tokens .entry)) (g .stand) (now (list .entry)) (now (work .entry))
         r (now (list .exit)) (now (work .exit)) (g .t .0) ⌝ }
 {
@@ -403,33 +436,44 @@ fn converted(
     let wish = p.wish;
     let Wish::Frame(top) = wish else {
         let s = p.at;
-        return finish(rules, tokens, p.goal, s.trees, list, work);
+        return finish(rules, starts, tokens, p.goal, s.trees, list, work);
     };
     let q = under(p);
-    step(rules, edges, top, g.t, q, list, work)
+    step(rules, starts, edges, firsts, top, g.t, q, list, work)
 }
 
 // The conversion is reduced.
 fn convert(
     rules: &[u32],
+    starts: &[u32],
     edges: &[u32],
+    firsts: &[u32],
     tokens: &[u32],
     k: Choice,
     p: Stand,
     list: &mut [u32],
     work: &mut [u32],
 ) -> Turn
-    requires { ⌜ Ready (now rules) (now edges) (now tokens) p (now list) (now work) ⌝ }
+    requires { ⌜ Ready (now rules) (now starts) (now edges) (now firsts) (now tokens) p (now list) (now work) ⌝ }
     ensures { λ r. ⌜ Closes (now (rules .entry)) (now (edges .entry)) (now (tokens .entry)) p (now (list .entry)) (now (work .entry))
         r (now (list .exit)) (now (work .exit)) (choiceOf k) ⌝ }
 {
     let t = k.to;
     let s = p.at;
-    let done = formula::reduce(rules, p.room, list, work, s.trees, k.rule, 0);
+    let done = formula::reduce(rules, starts, p.room, list, work, s.trees, k.rule, 0);
     match done {
         formula::Reduced::Done(trees) => {
             let stand = regrown(p, trees);
-            converted(rules, edges, tokens, Grown { t, stand }, list, work)
+            converted(
+                rules,
+                starts,
+                edges,
+                firsts,
+                tokens,
+                Grown { t, stand },
+                list,
+                work,
+            )
         }
         formula::Reduced::TooFew => Turn::Stop(Why::Misfit),
         formula::Reduced::Full => Turn::Stop(Why::NoEntry),
@@ -441,40 +485,44 @@ fn convert(
 // The tree is not wanted. Where no token is left a conversion to a wanted typecode is reduced; otherwise the root step.
 fn unwanted(
     rules: &[u32],
+    starts: &[u32],
     edges: &[u32],
+    firsts: &[u32],
     tokens: &[u32],
     g: Grown,
     list: &mut [u32],
     work: &mut [u32],
 ) -> Turn
-    requires { ⌜ Ready (now rules) (now edges) (now tokens) (g .stand) (now list) (now work) ⌝ }
+    requires { ⌜ Ready (now rules) (now starts) (now edges) (now firsts) (now tokens) (g .stand) (now list) (now work) ⌝ }
     ensures { λ r. ⌜ Unwanted (now (rules .entry)) (now (edges .entry)) (now (tokens .entry)) (g .stand) (now (list .entry)) (now (work .entry))
         r (now (list .exit)) (now (work .exit)) (g .t .0) ⌝ }
 {
     let t = g.t;
     let p = g.stand;
     if p.at.token < tokens.len() {
-        let turn = root_step(rules, edges, t, p, list, work);
+        let turn = root_step(rules, starts, edges, firsts, t, p, list, work);
         return turn;
     }
     let wish = p.wish;
-    let Chosen::By(k) = conversion(rules, edges, wish, t) else {
-        let turn = root_step(rules, edges, t, p, list, work);
+    let Chosen::By(k) = conversion(rules, edges, firsts, wish, t) else {
+        let turn = root_step(rules, starts, edges, firsts, t, p, list, work);
         return turn;
     };
-    convert(rules, edges, tokens, k, p, list, work)
+    convert(rules, starts, edges, firsts, tokens, k, p, list, work)
 }
 
 // Without a frame: the goal is wanted, and finishes the walk where no token is left.
 fn at_bottom(
     rules: &[u32],
+    starts: &[u32],
     edges: &[u32],
+    firsts: &[u32],
     tokens: &[u32],
     g: Grown,
     list: &mut [u32],
     work: &mut [u32],
 ) -> Turn
-    requires { ⌜ Ready (now rules) (now edges) (now tokens) (g .stand) (now list) (now work) × Bare (g .stand .wish) ⌝ }
+    requires { ⌜ Ready (now rules) (now starts) (now edges) (now firsts) (now tokens) (g .stand) (now list) (now work) × Bare (g .stand .wish) ⌝ }
     ensures { λ r. ⌜ Completes (now (rules .entry)) (now (edges .entry)) (now (tokens .entry)) (g .stand) (now (list .entry)) (now (work .entry))
         r (now (list .exit)) (now (work .exit)) (g .t .0) ⌝ }
 {
@@ -482,42 +530,44 @@ fn at_bottom(
     let p = g.stand;
     let s = p.at;
     if t.0 != p.goal.0 {
-        let turn = unwanted(rules, edges, tokens, g, list, work);
+        let turn = unwanted(rules, starts, edges, firsts, tokens, g, list, work);
         return turn;
     }
     if s.token < tokens.len() {
-        let turn = root_step(rules, edges, t, p, list, work);
+        let turn = root_step(rules, starts, edges, firsts, t, p, list, work);
         return turn;
     }
-    finish(rules, tokens, p.goal, s.trees, list, work)
+    finish(rules, starts, tokens, p.goal, s.trees, list, work)
 }
 
 // Wanted by a frame, it is popped and its edge followed.
 fn complete(
     rules: &[u32],
+    starts: &[u32],
     edges: &[u32],
+    firsts: &[u32],
     tokens: &[u32],
     g: Grown,
     list: &mut [u32],
     work: &mut [u32],
 ) -> Turn
-    requires { ⌜ Ready (now rules) (now edges) (now tokens) (g .stand) (now list) (now work) ⌝ }
+    requires { ⌜ Ready (now rules) (now starts) (now edges) (now firsts) (now tokens) (g .stand) (now list) (now work) ⌝ }
     ensures { λ r. ⌜ Completes (now (rules .entry)) (now (edges .entry)) (now (tokens .entry)) (g .stand) (now (list .entry)) (now (work .entry))
         r (now (list .exit)) (now (work .exit)) (g .t .0) ⌝ }
 {
     let p = g.stand;
     let wish = p.wish;
     let Wish::Frame(top) = wish else {
-        let turn = at_bottom(rules, edges, tokens, g, list, work);
+        let turn = at_bottom(rules, starts, edges, firsts, tokens, g, list, work);
         return turn;
     };
-    let rows::Found::Row(row) = rows::look_up(edges, top, 1, g.t) else {
-        let turn = unwanted(rules, edges, tokens, g, list, work);
+    let rows::Found::Row(row) = rows::row_of(edges, firsts, top, 1, g.t) else {
+        let turn = unwanted(rules, starts, edges, firsts, tokens, g, list, work);
         return turn;
     };
     let q = under(p);
     if rows::has_reduces(edges, row) {
-        let turn = follow(rules, edges, row, q, list, work);
+        let turn = follow(rules, starts, edges, row, q, list, work);
         return turn;
     }
     let s = q.at;
@@ -527,27 +577,38 @@ fn complete(
 // The leaf's rule is reduced.
 fn leaf(
     rules: &[u32],
+    starts: &[u32],
     edges: &[u32],
+    firsts: &[u32],
     tokens: &[u32],
     rule: words::RuleNo,
     p: Stand,
     list: &mut [u32],
     work: &mut [u32],
 ) -> Turn
-    requires { ⌜ Ready (now rules) (now edges) (now tokens) p (now list) (now work) ⌝ }
+    requires { ⌜ Ready (now rules) (now starts) (now edges) (now firsts) (now tokens) p (now list) (now work) ⌝ }
     ensures { λ r. ⌜ Leaves (now (rules .entry)) (now (edges .entry)) (now (tokens .entry)) p (now (list .entry)) (now (work .entry))
         r (now (list .exit)) (now (work .exit)) (rule .0) ⌝ }
 {
-    let rules::Start::At(i) = rules::find_rule(rules, rule) else {
+    let rules::Start::At(i) = rules::find_rule(rules, starts, rule) else {
         return Turn::Stop(Why::Misfit);
     };
     let t = rules::result_of(&rules[i..]);
     let s = p.at;
-    let done = formula::reduce(rules, p.room, list, work, s.trees, rule, 0);
+    let done = formula::reduce(rules, starts, p.room, list, work, s.trees, rule, 0);
     match done {
         formula::Reduced::Done(trees) => {
             let stand = regrown(p, trees);
-            complete(rules, edges, tokens, Grown { t, stand }, list, work)
+            complete(
+                rules,
+                starts,
+                edges,
+                firsts,
+                tokens,
+                Grown { t, stand },
+                list,
+                work,
+            )
         }
         formula::Reduced::TooFew => Turn::Stop(Why::Misfit),
         formula::Reduced::Full => Turn::Stop(Why::NoEntry),
@@ -574,21 +635,35 @@ fn node_at(nodes: &[u32], node: words::NodeNo) -> Node
 // One pass.
 fn pass(
     rules: &[u32],
+    starts: &[u32],
     nodes: &[u32],
     edges: &[u32],
+    firsts: &[u32],
+    roots: &[u32],
     tokens: &[u32],
     p: Stand,
     frames: &mut [u32],
     list: &mut [u32],
     work: &mut [u32],
 ) -> Turn
-    requires { ⌜ Ready (now rules) (now edges) (now tokens) p (now list) (now work) × Stood p (now tokens) (now frames) ⌝ }
+    requires { ⌜ Ready (now rules) (now starts) (now edges) (now firsts) (now tokens) p (now list) (now work) × Stood p (now tokens) (now frames) × RootRows (now edges) (now roots) ⌝ }
     ensures { λ r. ⌜ Passes (now (rules .entry)) (now (nodes .entry)) (now (edges .entry)) (p .goal .0) (now (tokens .entry)) (p .room) (p .at)
         (now (frames .entry)) (now (list .entry)) (now (work .entry)) r (now (frames .exit)) (now (list .exit)) (now (work .exit)) ⌝ }
 {
     match node_at(nodes, p.at.node) {
-        Node::Branch => branch(rules, edges, tokens, p, frames, list, work),
-        Node::Leaf(rule) => leaf(rules, edges, tokens, rule, p, list, work),
+        Node::Branch => branch(
+            rules,
+            starts,
+            edges,
+            firsts,
+            roots,
+            tokens,
+            p,
+            frames,
+            list,
+            work,
+        ),
+        Node::Leaf(rule) => leaf(rules, starts, edges, firsts, tokens, rule, p, list, work),
     }
 }
 
@@ -619,16 +694,19 @@ fn refused(number: u32, place: u32, passes: u32) -> Walked
 // Passes until one ends the walk, or the allowance is used up.
 fn run(
     rules: &[u32],
+    starts: &[u32],
     nodes: &[u32],
     edges: &[u32],
+    firsts: &[u32],
+    roots: &[u32],
     tokens: &[u32],
     h: Held,
     frames: &mut [u32],
     list: &mut [u32],
     work: &mut [u32],
 ) -> Walked
-    requires { ⌜ Fit (now rules) (now edges) × (1 ≤ length (now tokens)) × (length (now tokens) ≤ mostTokens)
-        × Lent (h .room) (length (now list)) (length (now work)) ⌝ }
+    requires { ⌜ Fit (now rules) (now starts) (now edges) (now firsts) × (1 ≤ length (now tokens)) × (length (now tokens) ≤ mostTokens)
+        × Lent (h .room) (length (now list)) (length (now work)) × RootRows (now edges) (now roots) ⌝ }
     ensures { λ r. ⌜ Answers r (now (list .exit)) (run (pass (tables (now (rules .entry)) (now (nodes .entry)) (now (edges .entry))) (h .goal .0) (drop 1 (now (tokens .entry))))
         (h .allowance) (roomOf (h .room) (now (frames .entry))) 0 (start (drop 1 (now (tokens .entry))))) ⌝ }
 {
@@ -643,7 +721,19 @@ fn run(
             room: h.room,
             at: s,
         };
-        let turn = pass(rules, nodes, edges, tokens, p, frames, list, work);
+        let turn = pass(
+            rules,
+            starts,
+            nodes,
+            edges,
+            firsts,
+            roots,
+            tokens,
+            p,
+            frames,
+            list,
+            work,
+        );
         n += 1;
         match turn {
             Turn::On(q) => {
@@ -680,8 +770,11 @@ pub fn goal_of(codes: rules::Codes, stated: words::SymbolNo) -> words::SymbolNo
 // The walk of a statement, its typecode first. The tables have passed their checks.
 pub fn walk(
     rules: &[u32],
+    starts: &[u32],
     nodes: &[u32],
     edges: &[u32],
+    firsts: &[u32],
+    roots: &[u32],
     tokens: &[u32],
     terms: Terms,
     frames: &mut [u32],
@@ -690,6 +783,7 @@ pub fn walk(
 ) -> Walked
     requires { ⌜ (rulesGood (terms .codes .provable .0) (terms .codes .logic .0) (now rules) ≡ true)
         × (tablesGood (length (theRules (now rules))) (now nodes) (now edges) ≡ true)
+        × Indexed (now rules) (now starts) × Firsts (now edges) (now firsts) × RootRows (now edges) (now roots)
         × (2 ≤ length (now tokens)) × (length (now tokens) ≤ mostTokens) ⌝ }
     ensures { λ r. ⌜ Answers r (now (list .exit))
         (walk (tables (now (rules .entry)) (now (nodes .entry)) (now (edges .entry))) (terms .codes .provable .0) (terms .codes .logic .0) (terms .allowance)
@@ -703,5 +797,17 @@ pub fn walk(
         allowance: terms.allowance,
         room: words::lesser(shorter, MOST_ROOM),
     };
-    run(rules, nodes, edges, tokens, h, frames, list, work)
+    run(
+        rules,
+        starts,
+        nodes,
+        edges,
+        firsts,
+        roots,
+        tokens,
+        h,
+        frames,
+        list,
+        work,
+    )
 }

@@ -25,6 +25,18 @@ impl Grammar {
             Err(refusal) => Walked::before_any_pass(refusal),
         }
     }
+
+    /// One after the other. Each has the list room that is left, but no more than `work`, and all of the other rooms.
+    pub fn parse_many(&self, statements: &[&[u32]], rooms: Rooms, work: usize) -> Vec<Walked> {
+        let mut left = rooms.list;
+        let mut one = |tokens: &&[u32]| {
+            let list = left.min(work);
+            let walked = self.parse(tokens, Rooms { list, ..rooms });
+            left -= walked.list.as_ref().map_or(0, Vec::len);
+            walked
+        };
+        statements.iter().map(&mut one).collect()
+    }
 }
 
 impl Walked {

@@ -25,4 +25,4 @@ pub use package::{counted, Contents};
 pub use rows::{Edge, Key, Node, Reduce, Row, Tables};
 pub use rules::{Item, Rule, Rules, Typecodes};
 pub use walk::{Rooms, Walk, Walked};
-pub use words::{body, build, package_read, package_write, parse, verify, Answer, Built, Package, Stretch, Written};
+pub use words::{body, build, package_read, package_write, parse, parse_many, verify, Answer, Batch, Built, Package, Stretch, Written};

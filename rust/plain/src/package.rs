@@ -135,22 +135,22 @@ impl Contents {
     }
 }
 
-/// The statements of counted words; nothing if the last is not whole.
-pub fn counted(words: &[u32]) -> Option<Vec<&[u32]>> {
+/// The statements of counted words; if the last is not whole, how many there are before it.
+pub fn counted(words: &[u32]) -> Result<Vec<&[u32]>, usize> {
     let mut statements = Vec::new();
     let mut left = words;
     while let Some((&count, rest)) = left.split_first() {
-        let (statement, rest) = (rest.get(..count as usize)?, &rest[count as usize..]);
+        let statement = rest.get(..count as usize).ok_or(statements.len())?;
         statements.push(statement);
-        left = rest;
+        left = &rest[statement.len()..];
     }
-    Some(statements)
+    Ok(statements)
 }
 
 /// The bytes of a package, with no rule of the old form; 22 if the statements aren't whole, or one has no length that a record can tell.
 pub fn packed(rules: &Rules, rule_words: &[u32], statements: &[u32]) -> Result<Vec<u8>, Refusal> {
     let typecodes = [rules.typecodes.provable.word(), rules.typecodes.logic.word()];
-    let statements = counted(statements).ok_or(Refusal::WrongSize(0))?;
+    let statements = counted(statements).map_err(|_| Refusal::WrongSize(0))?;
     let mut package = Vec::new();
     add(&mut package, Kind::Typecodes, &typecodes)?;
     for (_, rule) in rules.numbered() {

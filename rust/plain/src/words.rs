@@ -5,7 +5,7 @@ use crate::garden::FRAME;
 use crate::grammar::Grammar;
 use crate::grow::{grow, Room, Tree};
 use crate::numbers::{Refusal, RuleNo, EDGE_LIMIT, NODE_LIMIT};
-use crate::package::{packed, Contents};
+use crate::package::{counted, packed, Contents};
 use crate::rows::{row_words, ROW};
 use crate::rules::Rules;
 use crate::walk::{Rooms, Walked};
@@ -32,6 +32,21 @@ impl Answer {
             passes,
         }
     }
+}
+
+/// Words of a statement's answer in a batch.
+const ANSWER: usize = 4;
+
+/// What a batch answers. All but the number and the place are 0 where it is refused.
+#[derive(Clone, Copy, Debug, Default, PartialEq, Eq, Hash)]
+pub struct Batch {
+    pub number: u32,
+    /// The statement that is not whole, where that is why it is refused.
+    pub place: usize,
+    /// How many statements were answered.
+    pub statements: usize,
+    /// How many words at the front of the list slice are lists.
+    pub words: usize,
 }
 
 /// What a build answers.
@@ -156,6 +171,74 @@ pub fn parse(
         found.len()
     });
     Answer::of(length, walked.passes)
+}
+
+/// Many statements in counted words, under rules and tables that are read once: their lists one after another, and four words of answer for each.
+#[allow(clippy::too_many_arguments)]
+pub fn parse_many(
+    provable: u32,
+    logic: u32,
+    rules: &[u32],
+    nodes: &[u32],
+    edges: &[u32],
+    statements: &[u32],
+    allowance: u32,
+    frames: &mut [u32],
+    list: &mut [u32],
+    work: &mut [u32],
+    answers: &mut [u32],
+    index: &mut [u32],
+) -> Batch {
+    let rooms = Rooms {
+        allowance,
+        frames: frames.len(),
+        list: list.len(),
+    };
+    let [answer_room, index_room] = [answers.len(), index.len()];
+    for slice in [frames, &mut *list, &mut *work, &mut *answers, index] {
+        slice.fill(0);
+    }
+    let grammar = Grammar::read(provable, logic, rules, nodes, edges);
+    let walks = grammar.and_then(|grammar| {
+        let needed = grammar.rules.numbered().count() + nodes.len() + 1;
+        let statements = answerable(statements, answer_room, index_room, needed)?;
+        Ok(grammar.parse_many(&statements, rooms, work.len()))
+    });
+    match walks {
+        Ok(walks) => tell(&walks, list, answers),
+        Err(refusal) => Batch {
+            number: refusal.number(),
+            place: refusal.place(),
+            ..Batch::default()
+        },
+    }
+}
+
+/// 22 before 7. The index has no use here, but others may have one for it.
+fn answerable(statements: &[u32], answers: usize, index: usize, needed: usize) -> Result<Vec<&[u32]>, Refusal> {
+    let statements = counted(statements).map_err(Refusal::WrongSize)?;
+    if answers < ANSWER * statements.len() || index < needed {
+        return Err(Refusal::ListFull);
+    }
+    Ok(statements)
+}
+
+fn tell(walks: &[Walked], list: &mut [u32], answers: &mut [u32]) -> Batch {
+    let mut words = 0;
+    for (walked, told) in walks.iter().zip(answers.chunks_exact_mut(ANSWER)) {
+        let entries = walked.list.as_deref().unwrap_or_default();
+        list[words..][..entries.len()].copy_from_slice(entries);
+        words += entries.len();
+        let length = walked.list.as_ref().map(Vec::len).map_err(|&refusal| refusal);
+        let answer = Answer::of(length, walked.passes);
+        told.copy_from_slice(&[answer.number, answer.place, answer.length, answer.passes]);
+    }
+    Batch {
+        number: 0,
+        place: 0,
+        statements: walks.len(),
+        words,
+    }
 }
 
 /// The check alone: whether `list` is a well typed tree of the stated typecode that spells `tokens`.

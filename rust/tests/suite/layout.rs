@@ -2,14 +2,14 @@
 
 use std::mem::{align_of, offset_of, size_of};
 
-use jiehkavon::words::{Answer, Built, Read, Stretch, Written};
+use jiehkavon::words::{Answer, Batch, Built, Read, Stretch, Written};
 
 #[test]
 fn sizes() {
     assert_eq!([size_of::<Answer>(), size_of::<Built>(), size_of::<Stretch>()], [16, 12, 8]);
     assert_eq!([align_of::<Answer>(), align_of::<Built>(), align_of::<Stretch>()], [4, 4, 4]);
-    assert_eq!([size_of::<Read>(), size_of::<Written>()], [48, 24]);
-    assert_eq!([align_of::<Read>(), align_of::<Written>()], [8, 8]);
+    assert_eq!([size_of::<Read>(), size_of::<Written>(), size_of::<Batch>()], [48, 24, 32]);
+    assert_eq!([align_of::<Read>(), align_of::<Written>(), align_of::<Batch>()], [8, 8, 8]);
 }
 
 #[test]
@@ -40,4 +40,11 @@ fn fields_in_order() {
         [offset_of!(Written, number), offset_of!(Written, place), offset_of!(Written, length)],
         [0, 8, 16]
     );
+    let batch = [
+        offset_of!(Batch, number),
+        offset_of!(Batch, place),
+        offset_of!(Batch, statements),
+        offset_of!(Batch, words),
+    ];
+    assert_eq!(batch, [0, 8, 16, 24]);
 }

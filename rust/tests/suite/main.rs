@@ -5,6 +5,7 @@ mod examples;
 mod garden;
 mod layout;
 mod long;
+mod many;
 mod package;
 mod refusals;
 mod room;

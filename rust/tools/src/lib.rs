@@ -1,10 +1,14 @@
 //! What the comparisons, the reader and the benchmark share.
 pub mod bodies;
+pub mod growing;
 pub mod grown;
 pub mod held;
 pub mod inputs;
 pub mod metamath;
+pub mod night;
 pub mod oracle;
+pub mod ordinary;
+pub mod published;
 pub mod random;
 pub mod sets;
 pub mod sides;

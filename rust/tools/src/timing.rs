@@ -46,17 +46,30 @@ pub fn time(mut call: impl FnMut()) -> f64 {
     median((0..REPETITIONS).map(repetition).collect())
 }
 
+/// Nanoseconds of a call: the least and the median of several.
+#[derive(Clone, Copy, Debug)]
+pub struct Times {
+    pub least: f64,
+    pub median: f64,
+}
+
+/// Of each call, so many times in turn: what disturbs one of them disturbs the others as well.
+pub fn in_turn<const N: usize>(rounds: usize, mut calls: [&mut dyn FnMut(); N]) -> [Times; N] {
+    let mut times = [(); N].map(|()| Vec::with_capacity(rounds));
+    for _ in 0..rounds {
+        for (call, times) in calls.iter_mut().zip(&mut times) {
+            let start = now();
+            call();
+            times.push(now() - start);
+        }
+    }
+    times.map(|times| Times {
+        least: times.iter().copied().fold(f64::INFINITY, f64::min),
+        median: median(times),
+    })
+}
+
 /// Nanoseconds of each of two calls: the least of many, taken in turn, which other work on the machine disturbs the least.
 pub fn least(mut one: impl FnMut(), mut other: impl FnMut()) -> [f64; 2] {
-    let mut least = [f64::INFINITY; 2];
-    let mut note = |at: usize, call: &mut dyn FnMut()| {
-        let start = now();
-        call();
-        least[at] = f64::min(least[at], now() - start);
-    };
-    for _ in 0..TURNS {
-        note(0, &mut one);
-        note(1, &mut other);
-    }
-    least
+    in_turn(TURNS, [&mut one, &mut other]).map(|times| times.least)
 }

@@ -2,6 +2,7 @@ use Rattle.words.specs.Numbers.{misfit, number}
 use Rattle.words.specs.Outcome.{firstFault}
 use mathlib.Core.Path.{sym, _∙_}
 use mathlib.Core.List.{[]}
+use native.Mathlib.Omega.{arith}
 use lib.ListN.{length}
 use denote.Ref.{now}
 use borrow.Author.Tests.{not-true, not-false}
@@ -43,8 +44,8 @@ asks c = record {
   room = search needs;
 }
 
-shared-slice-read-t12 : tie.Need-shared-slice-read-t12
-shared-slice-read-t12 c = search needs
+shared-slice-read-t13 : tie.Need-shared-slice-read-t13
+shared-slice-read-t13 c = search needs
 
 goal-of-requires : tie.Need-goal-of-requires
 goal-of-requires c κs = search needs
@@ -60,8 +61,8 @@ part-check-end c = search needs
 
 check-requires : tie.Need-check-requires
 check-requires c κs =
-    let h = asks (c .before .before .before .before) in
-    (rules-good _ _ _ (h .good), h .room)
+    let h = asks (c .before .before .before .before .before) in
+    (record { good = rules-good _ _ _ (h .good); index = λ n g. absurd (omega arith) }, h .room)
 
 same-length : tie.Need-same-length
 same-length c = search needs
@@ -69,8 +70,8 @@ same-length c = search needs
 returns-5 : tie.Need-returns-5
 unfolding firstFault number
 returns-5 c =
-    let h = asks (c .before .before .before .before .before .before .before .before) in
-    sym (decided _ _ _ _ _ _ _ _ h (c .before .before .before .before .before .before .goal-of .ensures) (c .before .before .before .check .ensures) ∙ unmet {b = c .before .before .before .check .result} (not-true _ (c .if5 .taken)) (number misfit) [])
+    let h = asks (c .before .before .before .before .before .before .before .before .before) in
+    sym (decided _ _ _ _ _ _ _ _ h (c .before .before .before .before .before .before .before .goal-of .ensures) (c .before .before .before .check .ensures) ∙ unmet {b = c .before .before .before .check .result} (not-true _ (c .if5 .taken)) (number misfit) [])
 
 same-length-2 : tie.Need-same-length-2
 same-length-2 c = search needs
@@ -78,8 +79,8 @@ same-length-2 c = search needs
 returns-6 : tie.Need-returns-6
 unfolding firstFault
 returns-6 c =
-    let h = asks (c .before .before .before .before .before .before .before .before) in
-    sym (decided _ _ _ _ _ _ _ _ h (c .before .before .before .before .before .before .goal-of .ensures) (c .before .before .before .check .ensures) ∙ met {b = c .before .before .before .check .result} (not-false _ (c .if5 .left)) (number misfit) [])
+    let h = asks (c .before .before .before .before .before .before .before .before .before) in
+    sym (decided _ _ _ _ _ _ _ _ h (c .before .before .before .before .before .before .before .goal-of .ensures) (c .before .before .before .check .ensures) ∙ met {b = c .before .before .before .check .result} (not-false _ (c .if5 .left)) (number misfit) [])
 
 pub judge-spec : {M : Type 1} → statement M
 judge-spec =
@@ -90,8 +91,11 @@ judge-spec =
     returns-2
     returns-3
     returns-4
-    shared-slice-read-t12
+    shared-slice-read-t13
     goal-of-requires
+    (λ c. search needs)
+    (λ c. search needs)
+    (λ c. search needs)
     sub-check
     part-check-start
     part-check-end

@@ -12,6 +12,7 @@ use Rattle.rules.specs.Sheet.{words-S, words-S10, words-T, words-U, words-V, wo
 use Rattle.rows.specs.Rows.{Edge, edgeOf, edgesOf, edgeWords, leaving}
 use Rattle.rows.specs.Sheet.{edge, five, nodes-S, edges-S, tables}
 use Rattle.desk.specs.Entry.{bodyGives, Built, buildGives, Asked, Lent, Parsed, parseGives, verifyGives}
+use Rattle.desk.specs.Batch.{Batch, batchGives, batching}
 use Rattle.desk.specs.laws.Starred.{Row, parses, checks, row, ample, every, asks, meets, opening}
 
 abbrev lent : ℕ → ℕ → ℕ → Lent
@@ -213,3 +214,66 @@ bodies : (bodyGives 1 2 words-S 1 ≡ stretch 2 3) × (bodyGives 1 2 words-S 7 �
     × (bodyGives 1 2 words-S 10 ≡ stretch 0 0) × (bodyGives 2 1 words-S 1 ≡ stretch 0 0)
 unfolding stretch opening
 bodies = (refl, refl, refl, refl, refl, refl)
+
+-- ---- batches
+
+-- set S, in slices of so many words: frames, list, work, answers, index; each statement has the two passes for itself
+batch-S : List ℕ → ℕ → ℕ → ℕ → ℕ → ℕ → Batch
+batch-S statements f l w answers index = batchGives
+    (record { provable = 1; logic = 2; rules = words-S; nodes = nodes-S; edges = edgeWords edges-S; statements = statements })
+    2 (record { slices = lent f l w; answers = answers; index = index })
+
+-- an accepted batch, with the words that stand in the list slice and in the answer slice
+batch-of : ℕ → ℕ → List ℕ → List ℕ → ℕ → ℕ → ℕ → Batch
+batch-of statements words list answers f w index = record {
+  number = 0;
+  place = 0;
+  statements = statements;
+  words = words;
+  frame-words = zeros f;
+  list-words = list;
+  work-words = zeros w;
+  answer-words = answers;
+  index-words = zeros index;
+}
+
+-- a refused one
+no-batch : ℕ → ℕ → ℕ → ℕ → ℕ → ℕ → ℕ → Batch
+no-batch number place f l w answers index = record {
+  number = number;
+  place = place;
+  statements = 0;
+  words = 0;
+  frame-words = zeros f;
+  list-words = zeros l;
+  work-words = zeros w;
+  answer-words = zeros answers;
+  index-words = zeros index;
+}
+
+-- one list word for two lists; one more than is needed of everything; a refused statement takes no list words; no statements
+batches : (batch-S (2 ∷ 1 ∷ 10 ∷ 2 ∷ 1 ∷ 10 ∷ []) 0 1 1 8 27 ≡ batch-of 2 1 (1 ∷ []) (0 ∷ 0 ∷ 1 ∷ 2 ∷ 7 ∷ 0 ∷ 0 ∷ 2 ∷ []) 0 1 27)
+    × (batch-S (2 ∷ 1 ∷ 10 ∷ 2 ∷ 1 ∷ 10 ∷ []) 1 3 2 9 28 ≡ batch-of 2 2 (1 ∷ 1 ∷ 0 ∷ []) (0 ∷ 0 ∷ 1 ∷ 2 ∷ 0 ∷ 0 ∷ 1 ∷ 2 ∷ 0 ∷ []) 1 2 28)
+    × (batch-S (2 ∷ 1 ∷ 10 ∷ 2 ∷ 1 ∷ 6 ∷ 2 ∷ 1 ∷ 10 ∷ []) 0 2 1 12 27 ≡ batch-of 3 2 (1 ∷ 1 ∷ []) (0 ∷ 0 ∷ 1 ∷ 2 ∷ 2 ∷ 1 ∷ 0 ∷ 1 ∷ 0 ∷ 0 ∷ 1 ∷ 2 ∷ []) 0 1 27)
+    × (batch-S [] 0 0 0 0 27 ≡ batch-of 0 0 [] [] 0 0 27)
+unfolding batch-S batch-of opening tables batching
+batches = (refl, refl, refl, refl)
+
+-- statement 1 is not whole; answers, and the index, one word short
+no-batches : (batch-S (2 ∷ 1 ∷ 10 ∷ 3 ∷ 1 ∷ 10 ∷ []) 1 2 1 8 27 ≡ no-batch 22 1 1 2 1 8 27)
+    × (batch-S (2 ∷ 1 ∷ 10 ∷ 2 ∷ 1 ∷ 10 ∷ []) 1 2 1 7 27 ≡ no-batch 7 0 1 2 1 7 27)
+    × (batch-S (2 ∷ 1 ∷ 10 ∷ 2 ∷ 1 ∷ 10 ∷ []) 1 2 1 8 26 ≡ no-batch 7 0 1 2 1 8 26)
+unfolding batch-S no-batch opening tables batching
+no-batches = (refl, refl, refl)
+
+-- rules, nodes, edges, statements, answers, index: the batch's own number
+batch-number : List ℕ → List ℕ → List ℕ → List ℕ → ℕ → ℕ → ℕ
+batch-number rs ns es ss answers index = batchGives (record { provable = 1; logic = 2; rules = rs; nodes = ns; edges = es; statements = ss }) 100
+    (record { slices = ample; answers = answers; index = index }) .number
+
+-- 10, 8, 22, 7 for the answers, 7 for the index, and 0: a statement of no tokens is refused for itself
+batch-orders : (batch-number (7 ∷ []) [] (1 ∷ []) (1 ∷ []) 0 0 ≡ 10) × (batch-number [] [] (1 ∷ []) (1 ∷ []) 0 0 ≡ 8)
+    × (batch-number [] (0 ∷ []) [] (1 ∷ []) 0 0 ≡ 22) × (batch-number [] (0 ∷ []) [] (0 ∷ []) 3 2 ≡ 7)
+    × (batch-number [] (0 ∷ []) [] (0 ∷ []) 4 1 ≡ 7) × (batch-number [] (0 ∷ []) [] (0 ∷ []) 4 2 ≡ 0)
+unfolding batch-number opening batching
+batch-orders = (refl, refl, refl, refl, refl, refl)

@@ -107,7 +107,7 @@ module _ (q : Asked) where
   after-mono a a′ m m′ h le zero y = walk-mono _ _ _ a a′ m m′ _ h le y
   after-mono a a′ m m′ h le (suc k) y = refl
 
-  walkOf-mono : (a a′ : ℕ) (m m′ : passes.Room) → More m m′ → a ≤ a′ → Roomy (walkOf q a m) → walkOf q a′ m′ ≡ walkOf q a m
+  pub walkOf-mono : (a a′ : ℕ) (m m′ : passes.Room) → More m m′ → a ≤ a′ → Roomy (walkOf q a m) → walkOf q a′ m′ ≡ walkOf q a m
   unfolding walkOf
   walkOf-mono a a′ m m′ h le y = after-mono a a′ m m′ h le (firstFault (parseDemands q)) y
 
@@ -117,7 +117,7 @@ pub record Wider (s s′ : Lent) : Type 0 where
   pub list : s .list ≤ s′ .list
   pub work : s .work ≤ s′ .work
 
-room-grows : (s s′ : Lent) → Wider s s′ → More (walkRoom s) (walkRoom s′)
+pub room-grows : (s s′ : Lent) → Wider s s′ → More (walkRoom s) (walkRoom s′)
 room-grows s s′ w =
     let h = lesser-le (s .list) (s .work) in
     record { frames = w .frames; list = lesser-is (s′ .list) (s′ .work) (lesser (s .list) (s .work)) (omega (arith, w .list, h .0)) (omega (arith, w .work, h .1)) }
@@ -126,7 +126,7 @@ room-grows s s′ w =
 abbrev pub listOf : Parsed → List ℕ
 listOf r = take (r .length) (r .list-words)
 
-list-of : (s : Lent) (w : Walked) → listOf (parsed s w) ≡ w .list
+pub list-of : (s : Lent) (w : Walked) → listOf (parsed s w) ≡ w .list
 unfolding parsed
 list-of s w = take-at (w .list) (zeros (s .list - length (w .list))) (length (w .list)) refl
 
@@ -366,7 +366,7 @@ pub record AsLent (s : Lent) (r : Parsed) : Type 0 where
   pub list : length (r .list-words) ≡ s .list
   pub work : length (r .work-words) ≡ s .work
 
-listed-in : (q : Asked) (a : ℕ) (s : Lent) → length (walkOf q a (walkRoom s) .list) ≤ s .list
+pub listed-in : (q : Asked) (a : ℕ) (s : Lent) → length (walkOf q a (walkRoom s) .list) ≤ s .list
 unfolding walkOf
 listed-in q a s = after-by q (λ w. length (w .list) ≤ s .list) a (walkRoom s) (firstFault (parseDemands q))
     (λ z. omega (arith, walk-within (theTables (q .rules) (q .nodes) (q .edges)) (q .provable) (q .logic) a (walkRoom s) (q .tokens), lesser-le (s .list) (s .work) .0))

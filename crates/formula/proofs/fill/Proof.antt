@@ -12,37 +12,37 @@ use Rattle.formula.proofs.fill.Statement.{statement}
 use Rattle.formula.proofs.fill.Tie as tie
 
 returns : tie.Need-returns
-returns c = fills-short _ _ _ _ _ (c .before .before .before .before .pre .1) (search needs)
+returns c = fills-short _ _ _ _ _ (c .before .before .before .before .before .pre .1) (search needs)
 
 -- the entry that is looked at
-some : (c : tie.Else1) → 0 < c .before .before .before .before .args .s .entry
+some : (c : tie.Else1) → 0 < c .before .before .before .before .before .args .s .entry
 some c = omega (arith, c .if1 .left)
 
 returns-2 : tie.Need-returns-2
 returns-2 c =
-    let st = c .before .before .before .before .before .before .before .before in
+    let st = c .before .before .before .before .before .before .before .before .before in
     let n = getD (now (st .args .list)) (st .args .s .entry - 1) 0 in
     fills-none _ _ _ _ _ (st .pre .1) (some (c .before .before .before .before))
     (subst (λ r. Found (now (st .args .rules)) n r) (c .enum-told .given .1) (c .before .before .find-rule .ensures))
 
 -- where its rule stands
 starts : (c : tie.After-known-told) →
-    let st = c .before .before .before .before .before .before .before .before .before in
+    let st = c .before .before .before .before .before .before .before .before .before .before in
     Starts (now (st .args .rules)) (getD (now (st .args .list)) (st .args .s .entry - 1) 0) (c .before .i .given .0 .0)
 starts c =
-    let st = c .before .before .before .before .before .before .before .before .before in
+    let st = c .before .before .before .before .before .before .before .before .before .before in
     let n = getD (now (st .args .list)) (st .args .s .entry - 1) 0 in
     subst (λ r. Found (now (st .args .rules)) n r) (c .before .i .given .1) (c .before .before .before .find-rule .ensures)
 
 result-of-requires : tie.Need-result-of-requires
-result-of-requires c κs = rw (part-all (now (c .before .before .before .before .before .before .before .before .before .before .args .rules)) (c .before .before .i .given .0 .0)) (starts (c .before) .good)
+result-of-requires c κs = rw (part-all (now (c .before .before .before .before .before .before .before .before .before .before .before .args .rules)) (c .before .before .i .given .0 .0)) (starts (c .before) .good)
 
-result-is : (c : tie.After-result-of) → c .result-of .result .0 ≡ ruleOf (drop (c .before .before .before .i .given .0 .0) (now (c .before .before .before .before .before .before .before .before .before .before .before .args .rules))) .result
-result-is c = rw (part-all (now (c .before .before .before .before .before .before .before .before .before .before .before .args .rules)) (c .before .before .before .i .given .0 .0)) at (c .result-of .ensures)
+result-is : (c : tie.After-result-of) → c .result-of .result .0 ≡ ruleOf (drop (c .before .before .before .i .given .0 .0) (now (c .before .before .before .before .before .before .before .before .before .before .before .before .args .rules))) .result
+result-is c = rw (part-all (now (c .before .before .before .before .before .before .before .before .before .before .before .before .args .rules)) (c .before .before .before .i .given .0 .0)) at (c .result-of .ensures)
 
 returns-3 : tie.Need-returns-3
 returns-3 c =
-    fills-wrong _ _ _ _ _ (c .before .before .before .before .before .before .before .before .before .before .before .before .before .before .pre .1) (some (c .before .before .before .before .before .before .before .before .before .before)) _ (starts (c .before .before .before .before .before)) λ e. c .if2 .taken (result-is (c .before .before .before) ∙ e)
+    fills-wrong _ _ _ _ _ (c .before .before .before .before .before .before .before .before .before .before .before .before .before .before .before .pre .1) (some (c .before .before .before .before .before .before .before .before .before .before)) _ (starts (c .before .before .before .before .before)) λ e. c .if2 .taken (result-is (c .before .before .before) ∙ e)
 
 whole-body-requires : tie.Need-whole-body-requires
 whole-body-requires c κs =
@@ -51,7 +51,7 @@ whole-body-requires c κs =
 
 returns-4 : tie.Need-returns-4
 returns-4 c =
-    fills-on _ _ _ _ _ (c .before .before .before .before .before .before .before .before .before .before .before .before .before .before .before .pre .1) (some (c .before .before .before .before .before .before .before .before .before .before .before)) _ (starts (c .before .before .before .before .before .before)) (sym (result-is (c .before .before .before .before)) ∙ c .before .if2 .left)
+    fills-on _ _ _ _ _ (c .before .before .before .before .before .before .before .before .before .before .before .before .before .before .before .before .pre .1) (some (c .before .before .before .before .before .before .before .before .before .before .before)) _ (starts (c .before .before .before .before .before .before)) (sym (result-is (c .before .before .before .before)) ∙ c .before .if2 .left)
     (c .whole-body .result) (c .whole-body .ensures)
 
 pub fill-spec : {M : Type 1} → statement M

@@ -9,16 +9,16 @@ use Rattle.formula.proofs.reduce_all.Tie as tie
 
 -- as many reduces as the count says
 count-is : (c : tie.Start) → length (edgeIs (c .args .e) .reduces) ≡ c .args .e .count
-count-is c = reduces-count (c .args .e) (rw length-map at (c .good .1 .1 .1 .1 .1 .0 .1 .1 .1 .1 .1 .1 .1 .0 .1 .0 .1)) (c .pre .2)
+count-is c = reduces-count (c .args .e) (rw length-map at (c .good .1 .1 .1 .1 .1 .1 .0 .1 .1 .1 .1 .1 .1 .1 .0 .1 .0 .1)) (c .pre .2)
 
 returns : tie.Need-returns
 returns c =
-    let st = c .before .before .before .before .before in
+    let st = c .before .before .before .before .before .before in
     all-none _ _ (edgeIs (st .args .e) .reduces) _ _ _ (st .pre .1) (omega (arith, count-is st, c .if1 .taken))
 
 returns-2 : tie.Need-returns-2
 returns-2 c =
-    let st = c .before .before .before .before .before .before .before .before .before .before .before .before .before .before .before in
+    let st = c .before .before .before .before .before .before .before .before .before .before .before .before .before .before .before .before in
     rw (all-one _ _ (edgeIs (st .args .e) .reduces) (c .before .before .before .before .before .before .before .reduce-of .result) _ (omega (arith, count-is st, c .before .before .before .before .before .before .before .before .if2 .taken)) (c .before .before .before .before .before .before .before .reduce-of .ensures))
     (c .before .before .before .before .reduce .ensures)
 

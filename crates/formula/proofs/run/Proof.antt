@@ -11,18 +11,18 @@ use Rattle.formula.proofs.run.Statement.{statement}
 use Rattle.formula.proofs.run.Tie as tie
 
 abbrev Inv-loop : tie.InvT-loop
-Inv-loop rules tokens list work₀ s₀ work s = (length work ≡ length work₀) × Stacked rules list s work × (s .token ≤ length tokens)
+Inv-loop rules starts tokens list work₀ s₀ work s = (length work ≡ length work₀) × Stacked rules list s work × (s .token ≤ length tokens)
     × (stillOf rules tokens list s work ≡ stillOf rules tokens list s₀ work₀)
 
 abbrev μ-loop : tie.MeasureT-loop
-μ-loop rules tokens list work₀ s₀ work s = weight s
+μ-loop rules starts tokens list work₀ s₀ work s = weight s
 
 -- the turn goes on
 on : (c : tie.After-known-told Inv-loop μ-loop) →
     let l = c .before .before .before .before .before .before .before .loop in
-    let st = c .before .before .before .before .before .before .before .before .before .before .before .before in
+    let st = c .before .before .before .before .before .before .before .before .before .before .before .before .before in
     Turned (now (st .args .rules)) (now (st .args .tokens)) (now (st .args .list)) (l .s)
-    (stillOf (now (st .args .rules)) (now (st .args .tokens)) (now (st .args .list)) (l .s) (l .work)) (On (c .before .turn .given .0 .0)) (c .before .before .before .before .before .take-turn .last .1 .1 .1 .0)
+    (stillOf (now (st .args .rules)) (now (st .args .tokens)) (now (st .args .list)) (l .s) (l .work)) (On (c .before .turn .given .0 .0)) (c .before .before .before .before .before .take-turn .last .1 .1 .1 .1 .0)
 on c = turned-on _ _ _ _ _ _ _ (c .before .before .before .before .before .take-turn .ensures) _ (c .before .turn .given .1)
 
 loop-again : tie.Need-loop-again Inv-loop μ-loop
@@ -39,7 +39,7 @@ run-spec =
     (tie.spec
     Inv-loop
     μ-loop
-    (λ c. (refl, c .before .before .before .before .pre .1, c .before .before .before .before .pre .2, refl))
+    (λ c. (refl, c .before .before .before .before .before .pre .1, c .before .before .before .before .before .pre .2, refl))
     (λ c κs. search needs)
     (λ c. search needs)
     (λ c. on c .lower .1)

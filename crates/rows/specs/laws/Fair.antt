@@ -14,8 +14,9 @@ use borrow.Author.Tests.{ltb-false, leb-true, leb-false, eqb-true, eqb-false, lt
 use Rattle.words.specs.Limits.{mostNodes, mostEdges, rowWidth, mostReduces, mostOffset}
 use Rattle.words.specs.laws.Tests.{and-l, and-r}
 use Rattle.rules.specs.Rules.{symbol}
-use Rattle.rules.specs.laws.Every.{All, chain-at}
+use Rattle.rules.specs.laws.Every.{All, all-map, chain-at}
 use Rattle.rows.specs.Rows.{Reduce, Edge, reducesOf, edgeOf, rowsOf, edgesFrom, edgesOf, rising, keyed, find, goodNodes, goodPair, goodPairs, rootToLeaf, goodEnds, goodRow, goodRows, nodesGood, edgesGood, tablesGood}
+use Rattle.rows.specs.Code.{Firsts, Tabled}
 use Rattle.rows.specs.laws.Order.{keyed-is}
 
 pub record ReduceOk (rules : ℕ) (d : Reduce) : Type 0 where
@@ -130,6 +131,25 @@ tables-fair rules ns ws g =
       words = nodes-ok rules ns (n 3);
       rows = rows-ok rules ns (rowsOf ws) (e 2);
       order = e 3;
+    }
+
+pub tables-few : (rules : ℕ) (ns ws : List ℕ) → tablesGood rules ns ws ≡ true → (length ns ≤ mostNodes) × (length ws / rowWidth ≤ mostEdges)
+unfolding tablesGood nodesGood edgesGood
+tables-few rules ns ws g =
+    let n = chain-at (not (ltb (length ns) 1)) (not (ltb mostNodes (length ns)) ∷ eqb (getD ns 0 0) 0 ∷ goodNodes rules ns ∷ []) (and-l (nodesGood rules ns) (edgesGood rules ns ws) g) in
+    let e = chain-at (eqb (length ws % rowWidth) 0) (not (ltb mostEdges (length ws / rowWidth)) ∷ goodRows rules ns (rowsOf ws) ∷ rising (edgesOf ws) ∷ [])
+    (and-r (nodesGood rules ns) (edgesGood rules ns ws) g) in
+    (count-below (length ns) mostNodes (n 1), count-below (length ws / rowWidth) mostEdges (e 1))
+
+-- and can be looked up in, with an index of their rows
+pub tables-tabled : (rules : ℕ) (ns ws is : List ℕ) → tablesGood rules ns ws ≡ true → Firsts ws is → Tabled ws is
+tables-tabled rules ns ws is g x =
+    let f = tables-fair rules ns ws g in
+    record {
+      order = f .order;
+      kinds = all-map (RowOk rules ns) (λ e. e .kind ≤ 1) (λ e r. r .kind-in) (edgesOf ws) (f .rows);
+      few = tables-few rules ns ws g .1;
+      firsts = x;
     }
 
 -- ---- what a look-up finds

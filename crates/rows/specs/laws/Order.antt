@@ -30,7 +30,7 @@ Under e n k s = Lower (e .from) (e .kind) (e .sym) n k s
 abbrev pub Over : Edge → ℕ → ℕ → ℕ → Type 0
 Over e n k s = Lower n k s (e .from) (e .kind) (e .sym)
 
-lower-trans : {a b c x y z u v w : ℕ} → Lower a b c x y z → Lower x y z u v w → Lower a b c u v w
+pub lower-trans : {a b c x y z u v w : ℕ} → Lower a b c x y z → Lower x y z u v w → Lower a b c u v w
 lower-trans (by-from h) (by-from g) = by-from (omega arith)
 lower-trans (by-from h) (by-kind e g) = by-from (omega arith)
 lower-trans (by-from h) (by-symbol e f g) = by-from (omega arith)
@@ -125,17 +125,16 @@ pub rising-rest : (e : Edge) (es : List Edge) → rising (e ∷ es) ≡ true →
 unfolding rising
 rising-rest e es h = and-r (precedes e es) (rising es) h
 
+pub nth : (P : Edge → Type 0) (es : List Edge) (i : ℕ) (d : Edge) → i < length es → All P es → P (getD es i d)
+nth P [] i d h a = absurd (not-suc-le-zero h)
+nth P (e ∷ es) zero d h a = a .0
+nth P (e ∷ es) (suc i) d h a = nth P es i d (le-of-suc-le-suc h) (a .1)
+
 -- of two rows the one that stands before is lower
 pub rising-between : (es : List Edge) (i j : ℕ) (d : Edge) → rising es ≡ true → i < j → j < length es → Under (getD es i d) (getD es j d .from) (getD es j d .kind) (getD es j d .sym)
 rising-between es i zero d r h l = absurd (not-suc-le-zero h)
 rising-between [] i (suc j) d r h l = absurd (not-suc-le-zero l)
-rising-between (e ∷ es) zero (suc j) d r h l = nth es j (le-of-suc-le-suc l) (rising-all e es r)
-  where
-    nth : (es : List Edge) (i : ℕ) → i < length es → All (λ d. Under e (d .from) (d .kind) (d .sym)) es
-        → Under e (getD es i d .from) (getD es i d .kind) (getD es i d .sym)
-    nth [] i h a = absurd (not-suc-le-zero h)
-    nth (c ∷ es) zero h a = a .0
-    nth (c ∷ es) (suc i) h a = nth es i (le-of-suc-le-suc h) (a .1)
+rising-between (e ∷ es) zero (suc j) d r h l = nth (λ d. Under e (d .from) (d .kind) (d .sym)) es j d (le-of-suc-le-suc l) (rising-all e es r)
 rising-between (e ∷ es) (suc i) (suc j) d r h l = rising-between es i j d (rising-rest e es r) (le-of-suc-le-suc h) (le-of-suc-le-suc l)
 
 -- ---- one row for each key

@@ -23,13 +23,13 @@ good : (c : tie.Else1) →
     rulesGood (st .args .codes .provable .0) (st .args .codes .logic .0) (now (st .args .rules)) ≡ true
 good c = passed (c .before .rules-good .ensures) (c .if1 .left)
 
-find-rule-requires : tie.Need-find-rule-requires
-find-rule-requires c κs = rules-good _ _ _ (good c)
+step-to-requires : tie.Need-step-to-requires
+step-to-requires c κs = rules-good _ _ _ (good c)
 
 returns-2 : tie.Need-returns-2
 returns-2 c =
     let st = c .before .before .before .before .before .before in
-    let none = subst (λ r. Found (now (st .args .rules)) (st .args .no .0) r) (c .enum-told .given .1) (c .before .before .find-rule .ensures) in
+    let none = subst (λ r. Found (now (st .args .rules)) (st .args .no .0) r) (c .enum-told .given .1) (c .before .before .step-to .ensures) in
     rw (good (c .before .before .before), none .unstretched)
 
 -- the rule that was found
@@ -38,7 +38,7 @@ starts : (c : tie.After-known-told) →
     Starts (now (st .args .rules)) (st .args .no .0) (c .before .i .given .0 .0)
 starts c =
     let st = c .before .before .before .before .before .before .before in
-    subst (λ r. Found (now (st .args .rules)) (st .args .no .0) r) (c .before .i .given .1) (c .before .before .before .find-rule .ensures)
+    subst (λ r. Found (now (st .args .rules)) (st .args .no .0) r) (c .before .i .given .1) (c .before .before .before .step-to .ensures)
 
 size-of-requires : tie.Need-size-of-requires
 size-of-requires c κs =
@@ -61,7 +61,7 @@ stretch-of-spec =
     (tie.spec
     (λ c κs. search needs)
     returns
-    find-rule-requires
+    step-to-requires
     (λ c. search needs)
     (λ c. search needs)
     returns-2

@@ -6,7 +6,7 @@ use Rattle.walk.proofs.root_step.Tie as tie
 
 returns : tie.Need-returns
 returns c =
-    let a = c .before .before .before .before .before .before .before .before .before .before .before .args in
+    let a = c .before .before .before .before .before .before .before .before .before .before .before .before .before .args in
     step-root (now (a .rules)) (now (a .edges)) (a .p .room) (a .t .0) (a .p .at) (now (a .list)) (now (a .work)) (c .before .before .before .before .step .ensures)
 
 pub root-step-spec : {M : Type 1} → statement M

@@ -5,14 +5,14 @@
 //! `set.mm`), with which it is taken once more.
 
 use jiehkavon::{NotASymbol, Package};
-use std::fmt::Write as _;
-use std::fs::File;
 use std::hint::black_box;
-use std::process::{Command, ExitCode, Stdio};
-use tools::bodies::{numbered, without_variables};
+use std::process::ExitCode;
+use tools::bodies::without_variables;
+use tools::growing::{self, chained, nested, rows_before, rules_before};
 use tools::metamath::Database;
+use tools::published::{line, set_lines, Published};
 use tools::tables;
-use tools::timing::{least, median, time, REPETITIONS};
+use tools::timing::{least, time, REPETITIONS};
 
 /// Of a database's statements one in so many is used.
 const STEP: usize = 100;
@@ -118,42 +118,12 @@ impl Case {
 
     /// The lines that give the published Rust these rules, up to its build.
     fn lines(&self) -> String {
-        let mut lines = format!("set {} {}\n", self.provable, self.logic);
-        for words in without_variables(&self.rules) {
-            lines += &line("rule", &words);
-        }
-        lines + &self.command_lines() + "build\n"
-    }
-
-    /// Conversions that no command asks for are run last here and not at all there.
-    fn command_lines(&self) -> String {
-        let (mut lines, mut converted) = (String::new(), false);
-        let mut rest = &self.commands[..];
-        while let [first, after @ ..] = rest {
-            rest = after;
-            if *first == 2 {
-                lines += "conv\n";
-                converted = true;
-                continue;
-            }
-            let (prefix, shadow) = (after[0], after[1]);
-            let (pairs, others) = after[2..].split_at(2 * prefix as usize);
-            let (more, others) = others.split_at(2 * shadow as usize);
-            lines += &line("gp", &[&[prefix], pairs, &[shadow], more].concat());
-            rest = others;
-        }
-        lines + if converted { "" } else { "conv\n" }
+        set_lines(self.provable, self.logic, &self.rules, &self.commands)
     }
 
     fn parse_lines(&self) -> String {
         self.statements.iter().map(|tokens| line("parse", tokens)).collect()
     }
-}
-
-fn line(verb: &str, words: &[u32]) -> String {
-    let mut line = verb.to_owned();
-    words.iter().for_each(|word| write!(line, " {word}").expect("a string takes it"));
-    line + "\n"
 }
 
 /// What each statement came to: the answer, and the list that came with it.
@@ -346,64 +316,14 @@ fn read_once(case: &Case, outcomes: &Outcomes) -> Column {
     }
 }
 
-/// The published Rust behind its line driver, as a command and its arguments, under the name of its column.
-struct Oracle {
-    name: String,
-    command: Vec<String>,
+/// What so many builds more take of the published Rust.
+fn published_build(oracle: &Published, case: &Case, copies: usize) -> f64 {
+    oracle.more(&case.lines(), &"build\n".repeat(copies)) / copies as f64
 }
 
-impl Oracle {
-    fn new(text: &str) -> Self {
-        let (name, command) = text.split_once('=').unwrap_or(("published", text));
-        Oracle {
-            name: name.to_owned(),
-            command: command.split(' ').map(str::to_owned).collect(),
-        }
-    }
-
-    /// Nanoseconds of processor time that the program takes over some lines; the shell counts them, in hundredths of a second.
-    fn run(&self, lines: &str) -> f64 {
-        let path = std::env::temp_dir().join(format!("bench-{}.in", std::process::id()));
-        std::fs::write(&path, lines).expect("the folder for temporary files can be written");
-        let run = |_| {
-            let input = File::open(&path).expect("it was written");
-            let shell = ["-c", "\"$@\" >/dev/null && times", "sh"];
-            let output = Command::new("sh")
-                .args(shell)
-                .args(&self.command)
-                .stdin(input)
-                .stderr(Stdio::inherit())
-                .output();
-            let output = output.expect("there is a shell");
-            assert!(output.status.success(), "the oracle ends well");
-            of_children(&String::from_utf8_lossy(&output.stdout)).expect("the shell tells times")
-        };
-        let times = (0..REPETITIONS).map(run).collect();
-        std::fs::remove_file(&path).expect("it is there");
-        median(times)
-    }
-
-    /// What so many builds more take.
-    fn build(&self, case: &Case, copies: usize) -> f64 {
-        let one = case.lines();
-        (self.run(&(one.clone() + &"build\n".repeat(copies))) - self.run(&one)) / copies as f64
-    }
-
-    /// What it takes with the statements, so many times over, less what it takes without.
-    fn parse(&self, case: &Case, copies: usize) -> f64 {
-        let without = case.lines();
-        let with = without.clone() + &case.parse_lines().repeat(copies);
-        (self.run(&with) - self.run(&without)) / (copies * case.statements.len()) as f64
-    }
-}
-
-/// What the shell's `times` says of its children, in its second line: `0m1.230s 0m0.010s`, user and system.
-fn of_children(times: &str) -> Option<f64> {
-    let nanoseconds = |word: &str| {
-        let (minutes, seconds) = word.strip_suffix('s')?.split_once('m')?;
-        Some(1e9 * (60.0 * minutes.parse::<f64>().ok()? + seconds.parse::<f64>().ok()?))
-    };
-    times.lines().nth(1)?.split(' ').map(nanoseconds).sum()
+/// What the statements take of it, so many times over.
+fn published_parse(oracle: &Published, case: &Case, copies: usize) -> f64 {
+    oracle.more(&case.lines(), &case.parse_lines().repeat(copies)) / (copies * case.statements.len()) as f64
 }
 
 // ---- what is printed
@@ -435,7 +355,7 @@ fn average(of: impl ExactSizeIterator<Item = usize>) -> f64 {
 struct Bench {
     library: Core,
     plain: Core,
-    oracles: Vec<Oracle>,
+    oracles: Vec<Published>,
 }
 
 impl Bench {
@@ -454,10 +374,10 @@ impl Bench {
             parse: core.parse(case, 4),
             verify: Some(core.verify(case, outcomes)),
         };
-        let of_oracle = |oracle: &Oracle| Column {
+        let of_oracle = |oracle: &Published| Column {
             name: oracle.name.clone(),
-            build: Some(oracle.build(case, builds)),
-            parse: oracle.parse(case, parses),
+            build: Some(published_build(oracle, case, builds)),
+            parse: published_parse(oracle, case, parses),
             verify: None,
         };
         let mut columns = vec![of_core(&self.library), of_core(&self.plain), read_once(case, outcomes)];
@@ -564,7 +484,7 @@ impl Bench {
         let passes = outcomes[0].0[3] as usize;
         let (checks, idle, parse) = (self.library.checks(case), self.library.parse(case, 0), self.library.parse(case, 4));
         let copies = 200_000 / passes + 1;
-        let theirs = self.oracles.iter().map(|oracle| oracle.parse(case, copies));
+        let theirs = self.oracles.iter().map(|oracle| published_parse(oracle, case, copies));
         let of_pass = |ns: f64| format!("{:.0}", ns / passes as f64);
         let sizes = [case.longest(), case.rule_count(), case.edges.len() / 16, passes].map(|size| size.to_string());
         let ours = [
@@ -582,40 +502,7 @@ impl Bench {
 
 /// Set S of the paper, after `before`.
 fn set_s(before: Vec<u32>, statement: Vec<u32>) -> Case {
-    let set: [(u32, &[[u32; 2]]); 9] = [
-        (2, &[[0, 10]]),
-        (2, &[[0, 11]]),
-        (3, &[[0, 12]]),
-        (4, &[[0, 13]]),
-        (3, &[[1, 4]]),
-        (2, &[[0, 14], [1, 2]]),
-        (2, &[[0, 5], [1, 2], [0, 7], [1, 2], [0, 6]]),
-        (2, &[[1, 3], [0, 8], [1, 3]]),
-        (2, &[[1, 3], [0, 9], [1, 3]]),
-    ];
-    let rules = set.iter().flat_map(|(result, body)| numbered(*result, body));
-    Case::new(1, 2, before.into_iter().chain(rules).collect(), vec![statement])
-}
-
-/// The ten-pass sentence, put so many times over into its own second half: each time adds four tokens.
-fn nested(depth: usize) -> Vec<u32> {
-    [vec![1], [5, 10, 7].repeat(depth), vec![11], vec![6; depth]].concat()
-}
-
-/// Rule 6 of set S within itself: all frames, and one tree.
-fn chained(depth: usize) -> Vec<u32> {
-    [vec![1], vec![14; depth], vec![10]].concat()
-}
-
-/// Rules with 32 constants each: 32 rows for one rule.
-fn rows_before(count: u32) -> Vec<u32> {
-    let rule = |k: u32| numbered(2, &[vec![[0, 1000 + k]], vec![[0, 999]; 31]].concat());
-    (0..count).flat_map(rule).collect()
-}
-
-/// Conversions between typecodes that nothing else has: rules without rows.
-fn rules_before(count: u32) -> Vec<u32> {
-    (0..count).flat_map(|k| numbered(30_000 + k, &[[1, 40_000 + k]])).collect()
+    Case::new(1, 2, growing::set_s(before), vec![statement])
 }
 
 fn sheet(bench: &Bench) {
@@ -697,7 +584,7 @@ fn main() -> ExitCode {
     let bench = Bench {
         library: core!("library", jiehkavon::words),
         plain: core!("plain", plain::words),
-        oracles: options(&args, "--oracle").iter().map(|text| Oracle::new(text)).collect(),
+        oracles: options(&args, "--oracle").iter().map(|text| Published::new(text)).collect(),
     };
     println!("Medians of {REPETITIONS} repetitions.");
     sheet(&bench);

@@ -7,6 +7,8 @@ use std::env;
 use std::process::ExitCode;
 use std::time::{Duration, Instant};
 
+#[path = "compare/batches.rs"]
+mod batches;
 #[path = "compare/call.rs"]
 mod call;
 #[path = "compare/counts.rs"]
@@ -84,6 +86,9 @@ fn show(call: &Call) {
     let both = Both::of(&small);
     println!("and still about\n{small}the library says\n{}", both.library);
     match both.ordinary {
+        Some(outcome) if outcome == both.library => {
+            println!("and so does ordinary Rust; but a word was written that may only be read, or a statement of a batch is answered otherwise alone")
+        }
         Some(outcome) => println!("ordinary Rust says\n{outcome}"),
         None => println!("ordinary Rust panics"),
     }

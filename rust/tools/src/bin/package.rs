@@ -122,15 +122,17 @@ fn by_number(numbers: &BTreeMap<u32, usize>) -> String {
 fn answer_all(package: &Package, grammar: &Grammar, quiet: bool, out: &mut impl Write) -> io::Result<bool> {
     let (mut parser, mut progress) = (Parser::new(), Progress::new(quiet));
     let mut refused: BTreeMap<u32, usize> = BTreeMap::new();
-    for (at, tokens) in package.statements().enumerate() {
-        let answer = parser.parse_words(grammar, tokens);
+    let mut answers = parser.parse_many(grammar, package.statements());
+    let mut number = 0;
+    while let Some(answer) = answers.next_parsed() {
+        number += 1;
         if !quiet {
-            write_answer(out, at + 1, &answer)?;
+            write_answer(out, number, &answer)?;
         }
         if let Err(refusal) = answer {
             *refused.entry(refusal.number()).or_default() += 1;
         }
-        progress.at(at + 1, package.len());
+        progress.at(number, package.len());
     }
     let count: usize = refused.values().sum();
     write!(out, "{} accepted, {count} refused", package.len() - count)?;

@@ -14,6 +14,7 @@ pub enum Entry {
     Body,
     Build,
     Parse,
+    Many,
     Verify,
     Read,
     Write,
@@ -29,6 +30,20 @@ impl Entry {
                 &["provable", "logic", "allowance"],
                 &["rules", "nodes", "edges", "tokens", "frames", "list", "work"],
             ),
+            Entry::Many => (
+                &["provable", "logic", "allowance"],
+                &[
+                    "rules",
+                    "nodes",
+                    "edges",
+                    "statements",
+                    "frames",
+                    "list",
+                    "work",
+                    "answers",
+                    "index",
+                ],
+            ),
             Entry::Verify => (&["provable", "logic"], &["rules", "tokens", "list", "work"]),
             Entry::Read => (&[], &["bytes", "rules", "statements"]),
             Entry::Write => (&["provable", "logic"], &["rules", "statements", "bytes"]),
@@ -41,7 +56,7 @@ impl Entry {
             Entry::Body | Entry::Read => 1,
             Entry::Build | Entry::Write => 2,
             Entry::Verify => 3,
-            Entry::Parse => 4,
+            Entry::Parse | Entry::Many => 4,
         }
     }
 
@@ -95,6 +110,26 @@ impl Call {
             entry: Entry::Parse,
             numbers: vec![grammar.provable, grammar.logic, rooms.allowance],
             slices: read.map(<[u32]>::to_vec).into_iter().chain(lent).collect(),
+        }
+    }
+
+    /// Further rooms in words: for answers and index.
+    pub fn many(random: &mut Random, grammar: &Grammar, statements: &[u32], rooms: Rooms, more: [usize; 2]) -> Call {
+        let mut call = Call::parse(random, grammar, statements, rooms);
+        call.entry = Entry::Many;
+        call.slices.extend(more.map(|length| garbage(random, length)));
+        call
+    }
+
+    /// Of a batch the parse of one statement, with the list slice without the words used.
+    fn alone(&self, tokens: &[u32], used: usize) -> Call {
+        let mut slices = self.slices[..7].to_vec();
+        slices[3] = tokens.to_vec();
+        slices[5].drain(..used);
+        Call {
+            entry: Entry::Parse,
+            numbers: self.numbers.clone(),
+            slices,
         }
     }
 
@@ -219,6 +254,11 @@ impl Outcome {
         self.slice(5)[..self.fields[2] as usize].to_vec()
     }
 
+    /// The answers of a batch, four words each; none if it was refused.
+    pub fn answers(&self) -> impl Iterator<Item = &[u32]> {
+        self.slice(7).chunks_exact(4).take(self.fields[2] as usize)
+    }
+
     /// Whether the fences stand and the slices that are only read are as they were.
     pub fn kept(&self, call: &Call) -> bool {
         let fenced = |words: &Vec<u32>| words.is_empty() || (words.starts_with(&FENCE) && words.ends_with(&FENCE));
@@ -258,6 +298,21 @@ macro_rules! side {
                     let words::Answer { number, place, length, passes } =
                         words::parse(provable, logic, rules, nodes, edges, tokens, allowance, frames, list, work);
                     [number, place, length, passes].map(u64::from).to_vec()
+                }
+                (
+                    Entry::Many,
+                    &[provable, logic, allowance],
+                    [W(rules), W(nodes), W(edges), W(statements), W(frames), W(list), W(work), W(answers), W(index)],
+                ) => {
+                    let batch = words::parse_many(
+                        provable, logic, rules, nodes, edges, statements, allowance, frames, list, work, answers, index,
+                    );
+                    vec![
+                        u64::from(batch.number),
+                        batch.place as u64,
+                        batch.statements as u64,
+                        batch.words as u64,
+                    ]
                 }
                 (Entry::Verify, &[provable, logic], [W(rules), W(tokens), W(list), W(work)]) => {
                     let words::Answer { number, place, length, passes } = words::verify(provable, logic, rules, tokens, list, work);
@@ -300,13 +355,28 @@ impl Both {
     }
 
     pub fn agree(&self, call: &Call) -> bool {
-        self.ordinary.as_ref() == Some(&self.library) && self.library.kept(call)
+        let alone = call.entry != Entry::Many || self.library.fields[0] != 0 || each_alone(call, &self.library);
+        self.ordinary.as_ref() == Some(&self.library) && self.library.kept(call) && alone
     }
+}
+
+/// Whether of each statement of a batch the library's single parse says the same, with the part of the list slice that is free by then.
+fn each_alone(call: &Call, batch: &Outcome) -> bool {
+    let statements = plain::counted(&call.slices[3]).unwrap_or_default();
+    let (mut used, mut same) = (0, statements.len() as u64 == batch.fields[2]);
+    for (tokens, answer) in statements.into_iter().zip(batch.answers()) {
+        let parsed = library(&call.alone(tokens, used));
+        let list = parsed.list();
+        same &= parsed.fields.iter().copied().eq(answer.iter().map(|&word| u64::from(word)));
+        same &= batch.slice(5)[used..].starts_with(&list);
+        used += list.len();
+    }
+    same && used as u64 == batch.fields[3]
 }
 
 #[cfg(test)]
 mod tests {
-    use super::{ordinary, Call, Entry, FENCE};
+    use super::{each_alone, library, ordinary, Call, Entry, FENCE};
 
     #[test]
     fn writing_where_nothing_was_lent_is_seen() {
@@ -322,6 +392,33 @@ mod tests {
             let mut changed = outcome.clone();
             changed.slices[slice][place] += 1;
             assert_eq!(changed.kept(&call), kept);
+        }
+    }
+
+    #[test]
+    fn an_answer_that_is_not_the_single_parse_is_seen() {
+        let edge = [&[0, 0, 10, 1], &[0; 12][..]].concat();
+        let lent = [0, 3, 3, 8, 4].map(|length| vec![9; length]);
+        let read = [vec![2, 1, 0, 10, 0], vec![0, 1], edge, vec![2, 1, 10, 3, 1, 10, 10]];
+        let call = Call {
+            entry: Entry::Many,
+            numbers: vec![1, 2, 9],
+            slices: read.into_iter().chain(lent).collect(),
+        };
+        let outcome = library(&call);
+        assert!(outcome.kept(&call) && each_alone(&call, &outcome));
+        assert_eq!((&outcome.fields[..], outcome.slice(5)), (&[0, 0, 2, 1][..], &[1, 0, 0][..]));
+        // a list word, and each word of both answers
+        let places = [(5, 0)].into_iter().chain((0..8).map(|word| (7, word)));
+        for (slice, word) in places {
+            let mut changed = outcome.clone();
+            changed.slices[slice][FENCE.len() + word] += 1;
+            assert!(!each_alone(&call, &changed), "{slice}: {word}");
+        }
+        for field in [2, 3] {
+            let mut changed = outcome.clone();
+            changed.fields[field] -= 1;
+            assert!(!each_alone(&call, &changed));
         }
     }
 

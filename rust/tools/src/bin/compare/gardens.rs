@@ -39,7 +39,11 @@ impl Comparison {
             0 => {
                 let (nodes, edges) = (built.fields[1] as usize, ROW * built.fields[2] as usize);
                 let grammar = with_tables(&garden.set, built.slice(2)[..nodes].to_vec(), built.slice(3)[..edges].to_vec());
-                self.statements(&garden.set, &grammar, 3)
+                self.statements(&garden.set, &grammar, 3)?;
+                match self.random.chance(20) {
+                    true => self.batch_over(&garden.set, &grammar),
+                    false => Ok(()),
+                }
             }
             6 | 12 | 13 => {
                 let call = build_in(self, &grammar, &commands, LARGE);

@@ -35,7 +35,7 @@ impl Comparison {
     }
 
     pub fn round(&mut self) -> Compared {
-        match self.random.weighted(&[700, 150, 60, 40, 20, 30, 300, 5]) {
+        match self.random.weighted(&[700, 150, 60, 40, 20, 30, 300, 200, 5]) {
             0 => self.grammar_round(),
             1 => self.hand_made_round(),
             2 => self.arbitrary_round(),
@@ -43,6 +43,7 @@ impl Comparison {
             4 => self.many_tokens_round(),
             5 => self.package_round(),
             6 => self.garden_round(),
+            7 => self.batch_round(),
             _ => self.limit_round(),
         }
     }
@@ -52,7 +53,7 @@ impl Comparison {
         if !both.agree(&call) {
             return Err(Box::new(call));
         }
-        self.counts.add(call.entry, &both.library.fields);
+        self.counts.add(call.entry, &both.library);
         Ok(both.library)
     }
 
@@ -112,18 +113,22 @@ impl Comparison {
     }
 
     /// One number of a table at the end of its range, or past it, or rows that don't rise.
+    pub fn table_fault(&mut self, set: &RuleSet, grammar: &mut Grammar) {
+        let (rules, nodes) = (set.rules.len() as u32, grammar.nodes.len() as u32);
+        match self.random.weighted(&[20, 50, 30]) {
+            0 => {
+                let node = self.random.pick(&[0, grammar.nodes.len() - 1]);
+                grammar.nodes[node] = self.random.pick(&[0, 1, rules, rules + 1]);
+            }
+            1 => field(&mut self.random, rules, nodes, &mut grammar.edges),
+            _ => disorder(&mut self.random, &mut grammar.edges),
+        }
+    }
+
     fn faults(&mut self, set: &RuleSet, grammar: &Grammar) -> Compared {
         for _ in 0..3 {
             let mut grammar = grammar.clone();
-            let (rules, nodes) = (set.rules.len() as u32, grammar.nodes.len() as u32);
-            match self.random.weighted(&[20, 50, 30]) {
-                0 => {
-                    let node = self.random.pick(&[0, grammar.nodes.len() - 1]);
-                    grammar.nodes[node] = self.random.pick(&[0, 1, rules, rules + 1]);
-                }
-                1 => field(&mut self.random, rules, nodes, &mut grammar.edges),
-                _ => disorder(&mut self.random, &mut grammar.edges),
-            }
+            self.table_fault(set, &mut grammar);
             let tokens = noise(&mut self.random, set, 2);
             let call = Call::parse(&mut self.random, &grammar, &tokens, ample_rooms(&tokens));
             self.compare(call)?;
@@ -231,7 +236,7 @@ impl Comparison {
         self.compare_around(call)
     }
 
-    fn any_rooms(&mut self, most: Rooms) -> Rooms {
+    pub fn any_rooms(&mut self, most: Rooms) -> Rooms {
         Rooms {
             allowance: self.random.between(0..=most.allowance as usize) as u32,
             frames: self.random.between(0..=most.frames),
@@ -292,6 +297,7 @@ impl Comparison {
             (Entry::Body, 3, 1),
             (Entry::Build, 2, 5),
             (Entry::Parse, 3, 7),
+            (Entry::Many, 3, 9),
             (Entry::Verify, 2, 4),
             (Entry::Read, 0, 3),
             (Entry::Write, 2, 3),
@@ -330,7 +336,8 @@ impl Comparison {
         let parsed = self.compare_around(call)?;
         let list = parsed.list();
         let call = Call::verify(&mut self.random, &grammar, tokens, &list, list.len());
-        self.compare_around(call).map(drop)
+        self.compare_around(call)?;
+        self.long_batch(&grammar, tokens)
     }
 
     /// One limit after the other, so that none is left to chance.
