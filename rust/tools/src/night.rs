@@ -4,7 +4,7 @@
 use crate::metamath::Database;
 use crate::ordinary::{Buffers, Tables};
 use crate::tables;
-use jiehkavon::limits::{ANSWER_WIDTH, FRAME_WIDTH, ITEM_WIDTH, MOST_CLONES, ROW_WIDTH};
+use jiehkavon::limits::{ANSWER_WIDTH, ITEM_WIDTH, ROW_WIDTH};
 use jiehkavon::words::{parse_many, Batch};
 use jiehkavon::Room;
 use std::io;
@@ -26,10 +26,7 @@ pub struct Night {
 impl Night {
     /// The tables of these rules and commands, without statements; nothing if they don't build.
     pub fn try_new(provable: u32, logic: u32, rules: Vec<u32>, commands: Vec<u32>) -> Option<Night> {
-        let (mut nodes, mut edges) = tables::longest();
-        let mut frames = vec![0; MOST_CLONES * FRAME_WIDTH];
-        let built = jiehkavon::words::build(provable, logic, &rules, &commands, &mut nodes, &mut edges, &mut frames);
-        tables::cut(built, &mut nodes, &mut edges);
+        let (built, nodes, edges) = tables::built(provable, logic, &rules, &commands);
         (built.number == 0).then_some(Night {
             provable,
             logic,
@@ -110,8 +107,20 @@ impl Night {
             list: vec![0; self.list_room()],
             work: vec![0; room.list],
             answers: vec![0; ANSWER_WIDTH * self.count()],
-            index: vec![0; self.rule_count() + self.nodes.len() + 1 + self.constants()],
+            index: vec![0; self.least_index() + self.constants()],
         }
+    }
+
+    /// The index words without which a batch is refused.
+    fn least_index(&self) -> usize {
+        self.rule_count() + self.nodes.len() + 1
+    }
+
+    /// With no more index than that, so that node 0's rows are searched.
+    pub fn lent_least(&self) -> Lent {
+        let mut lent = self.lent();
+        lent.index.truncate(self.least_index());
+        lent
     }
 
     /// Of the same lengths.

@@ -118,20 +118,9 @@ const FRAMES: usize = 256;
 
 impl Ready {
     fn new(database: Database) -> Ready {
-        let (mut nodes, mut edges) = tables::longest();
         let (rules, commands) = (database.rule_words(), database.command_words());
-        let mut frames = vec![0; FRAMES * FRAME_WIDTH];
-        let built = words::build(
-            database.provable,
-            database.logic,
-            &rules,
-            &commands,
-            &mut nodes,
-            &mut edges,
-            &mut frames,
-        );
+        let (built, nodes, edges) = tables::built(database.provable, database.logic, &rules, &commands);
         assert_eq!(built.number, 0, "the rules build");
-        tables::cut(built, &mut nodes, &mut edges);
         let longest = database
             .statements
             .iter()
@@ -139,7 +128,7 @@ impl Ready {
             .max()
             .unwrap_or(0);
         let room = Room::for_tokens(longest);
-        frames.resize(frames.len().max(room.frames), 0);
+        let frames = vec![0; room.frames.max(FRAMES * FRAME_WIDTH)];
         Ready {
             database,
             rules,

@@ -86,11 +86,8 @@ impl Case {
     }
 
     fn with_commands(provable: u32, logic: u32, rules: Vec<u32>, commands: Vec<u32>, statements: Vec<Vec<u32>>) -> Self {
-        let (mut nodes, mut edges) = tables::longest();
-        let mut frames = vec![0; FRAMES];
-        let built = jiehkavon::words::build(provable, logic, &rules, &commands, &mut nodes, &mut edges, &mut frames);
+        let (built, nodes, edges) = tables::built(provable, logic, &rules, &commands);
         assert_eq!(built.number, 0, "the rules build");
-        tables::cut(built, &mut nodes, &mut edges);
         Case {
             provable,
             logic,

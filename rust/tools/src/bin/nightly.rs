@@ -35,6 +35,9 @@ fn outcome(night: &Night) -> Vec<u32> {
     ordinary_night(night, night.allowance(), &mut buffers);
     assert_eq!((batch.number, batch.place), (0, 0), "rules, tables and statements are good");
     assert_eq!((batch.statements, batch.words), (night.count(), buffers.words), "counts agree");
+    let mut least = night.lent_least();
+    assert_eq!(library_night(night, night.allowance(), &mut least), batch, "whatever the index");
+    assert_eq!((&least.answers, &least.list), (&lent.answers, &lent.list), "whatever the index");
     assert_eq!(lent.answers, buffers.answers.concat(), "every answer agrees");
     assert_eq!(lent.list, buffers.list, "every list agrees, and behind them both are zero");
     let zero = [&lent.frames, &lent.work, &lent.index, &buffers.frames, &buffers.work];
@@ -42,15 +45,18 @@ fn outcome(night: &Night) -> Vec<u32> {
     lent.answers
 }
 
-/// Nanoseconds of a night: the library's batch, then the ordinary program.
-fn nights(night: &Night, rounds: usize) -> [Times; 2] {
-    let (mut lent, mut buffers) = (night.lent(), night.buffers());
+/// Nanoseconds of a night: the library's batch, the same with the shortest index, then the ordinary program.
+fn nights(night: &Night, rounds: usize) -> [Times; 3] {
+    let (mut lent, mut least, mut buffers) = (night.lent(), night.lent_least(), night.buffers());
     let allowance = night.allowance();
     let mut batch = || {
         black_box(library_night(night, allowance, &mut lent));
     };
+    let mut short = || {
+        black_box(library_night(night, allowance, &mut least));
+    };
     let mut ordinary = || ordinary_night(night, allowance, &mut buffers);
-    in_turn(rounds, [&mut batch, &mut ordinary])
+    in_turn(rounds, [&mut batch, &mut short, &mut ordinary])
 }
 
 /// Every so many statements as a night of their own.
@@ -145,11 +151,12 @@ impl Sizes {
 
 fn compare(night: &Night, rounds: usize, oracles: &[Published]) {
     let sizes = Sizes::new(&outcome(night));
-    let [library, ordinary] = nights(night, rounds);
+    let [library, short, ordinary] = nights(night, rounds);
     let once = |ns: f64| Times { least: ns, median: ns };
     let alone = once(single(&sample(night, STEP)) * sizes.statements);
     let mut rows = vec![
         row("library, batch", library, ordinary, &sizes),
+        row("the same, index of the least size", short, ordinary, &sizes),
         row("ordinary", ordinary, ordinary, &sizes),
         row("library, one by one", alone, ordinary, &sizes),
     ];
