@@ -1,16 +1,16 @@
 -- What the batch's proofs share: its refusals, its index, and its result as a value of its definition.
-use mathlib.Core.Path.{_≡_, refl, sym, _∙_, ap, subst}
-use mathlib.Core.Bool.{Bool, true, false, not}
+use mathlib.Core.Path.{_≡_, refl, sym, _∙_, ap}
+use mathlib.Core.Bool.{true, false, not}
 use mathlib.Core.List.{List, [], _∷_, _++_, append-assoc}
 use mathlib.Core.Logic.{_≢_}
-use Prim.Native.Nat.{ℕ, zero, suc, _+_, _*_, _-_, _/_, _≤_, _<_}
+use Prim.Native.Nat.{ℕ, zero, suc, _+_, _*_, _-_, _≤_, _<_}
 use native.Mathlib.Omega.{arith}
 use lib.Dec.{ltb, eqb}
 use lib.ListN.{length, take, drop, length-drop, length-append}
 use lib.Seq.{take-at, drop-at, length-take-le}
 use borrow.Author.Tests.{lt-ltb, le-ltb}
 use borrow.Rule.Slice.PartMut.{postOf, putMid, same-len-mid}
-use Rattle.words.specs.Lent.{zeros, padded, clearedFrom}
+use Rattle.words.specs.Lent.{zeros, clearedFrom}
 use Rattle.words.specs.Numbers.{noRoom, wrongSize}
 use Rattle.words.specs.Outcome.{Res, ok, no, pick, Demand, demand, firstFault}
 use Rattle.words.specs.Counted.{listsOf, listsIn, theLists}
@@ -20,12 +20,12 @@ use Rattle.words.specs.declared.Lists.the-variants.{Whole, Cut}
 use Rattle.words.specs.laws.Faults.{met, unmet, none-left, one-more, fault-is}
 use Rattle.rules.specs.Rules.{theRules, rulesGood}
 use Rattle.rows.specs.Rows.{tablesGood}
-use Rattle.walk.specs.Walk.{Walked}
 use Rattle.desk.specs.Entry.{groundDemands}
 use Rattle.desk.specs.Entry as single
 use Rattle.desk.specs.Batch.{Asked, Lent, Batch, answerWidth, answerWords, listWords, walksFrom, whole, cutAt, indexSize, batchDemands, batched, batchAfter, batchGives}
 use Rattle.desk.specs.Code.{Packed, TriedMany, batchIs}
 use Rattle.desk.specs.declared.Batch as declared
+use Rattle.desk.specs.laws.Batches.{walks-length}
 use Rattle.desk.proofs.Laws.{ground-passed}
 
 -- ---- counted words
@@ -71,10 +71,6 @@ module _ (q : Asked) (s : Lent) (g : rulesGood (q .provable) (q .logic) (q .rule
       pub few-index : s .index < indexSize q → noRoom ≡ firstFault (batchDemands q s)
       few-index k = sym (past-answers ∙ unmet (ap not (lt-ltb (s .index) (indexSize q) k)) noRoom [])
 
-      pub none-fails : indexSize q ≤ s .index → firstFault (batchDemands q s) ≡ 0
-      unfolding firstFault
-      none-fails k = past-answers ∙ met (ap not (le-ltb (s .index) (indexSize q) k)) noRoom []
-
 -- a refusal of rules or tables has no place
 pub ground-place : (p l : ℕ) (rs ns es : List ℕ) (k : ℕ) → k ≡ firstFault (groundDemands p l rs ns es) → (n : ℕ) → 0 ≡ pick (eqb k wrongSize) n 0
 ground-place p l rs ns es k e n =
@@ -82,11 +78,6 @@ ground-place p l rs ns es k e n =
     rw b
 
 -- ---- what is given back
-
-walks-length : (q : Asked) (a : ℕ) (s : single.Lent) (u : ℕ) (ls : List (List ℕ)) → length (walksFrom q a s u ls) ≡ length ls
-unfolding walksFrom
-walks-length q a s u [] = refl
-walks-length q a s u (l ∷ ls) = ap suc (walks-length q a s _ ls)
 
 module _ (q : Asked) (a : ℕ) (s : Lent) (list answers : List ℕ) (l : length list ≡ s .slices .list) (k : length answers ≡ s .answers) where
   pub tried-refused : (n place : ℕ) → n ≡ firstFault (batchDemands q s) → n ≢ 0 → place ≡ pick (eqb n wrongSize) (cutAt (listsOf (q .statements))) 0

@@ -1,8 +1,7 @@
-use mathlib.Core.Path.{subst, sym}
 use native.Mathlib.Omega.{arith}
 use denote.Ref.{now}
 use borrow.Author.Needs.{needs}
-use Rattle.desk.specs.Code.{Tried, asked}
+use Rattle.desk.specs.Code.{asked}
 use Rattle.desk.specs.laws.Promises.{walk-goes}
 use Rattle.desk.proofs.Laws.{tried-fault, tried-walk, few-tokens, many-tokens, fit-tokens}
 use Rattle.desk.proofs.parse_one.Statement.{statement}

@@ -63,9 +63,12 @@ number-of q a s = number-after q a s (firstFault (batchDemands q s))
 pub accepted-fits : (q : Asked) (a : ℕ) (s : Lent) → batchGives q a s .number ≡ 0 → Fit q s
 accepted-fits q a s h = fits q s (sym (number-of q a s) ∙ h)
 
-pub fits-accepted : (q : Asked) (a : ℕ) (s : Lent) → Fit q s → batchGives q a s .number ≡ 0
-fits-accepted q a s f = number-of q a s ∙ met (f .rules) badRules _ ∙ met (f .tables) badTables _ ∙ met (f .statements) wrongSize _
+pub fits-fails-none : (q : Asked) (s : Lent) → Fit q s → firstFault (batchDemands q s) ≡ 0
+fits-fails-none q s f = met (f .rules) badRules _ ∙ met (f .tables) badTables _ ∙ met (f .statements) wrongSize _
     ∙ met (ap not (le-ltb _ _ (f .answers))) noRoom _ ∙ met (ap not (le-ltb _ _ (f .index))) noRoom _ ∙ none-fails
+
+pub fits-accepted : (q : Asked) (a : ℕ) (s : Lent) → Fit q s → batchGives q a s .number ≡ 0
+fits-accepted q a s f = number-of q a s ∙ fits-fails-none q s f
 
 -- and is then its walks, one after another
 abbrev walksOf : Asked → ℕ → Lent → List Walked
@@ -176,7 +179,7 @@ batch-refused-zeros q a s h = nothing-after q a s (firstFault (batchDemands q s)
 
 -- ---- batch-lengths-kept: each slice comes back as long as it was lent, so answers and lists fit
 
-walks-length : (q : Asked) (a : ℕ) (s : single.Lent) (used : ℕ) (ts : List (List ℕ)) → length (walksFrom q a s used ts) ≡ length ts
+pub walks-length : (q : Asked) (a : ℕ) (s : single.Lent) (used : ℕ) (ts : List (List ℕ)) → length (walksFrom q a s used ts) ≡ length ts
 unfolding walksFrom
 walks-length q a s used [] = refl
 walks-length q a s used (t ∷ ts) = ap suc (walks-length q a s _ ts)

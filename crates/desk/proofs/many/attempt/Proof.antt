@@ -1,9 +1,7 @@
 use mathlib.Core.Path.{refl, sym, _∙_}
-use mathlib.Core.Logic.{_≢_}
 use native.Mathlib.Omega.{arith}
 use denote.Ref.{now}
 use borrow.Author.Needs.{needs}
-use borrow.Author.Tests.{ne-eqb}
 use Rattle.desk.specs.Code.{askedMany, lentMany}
 use Rattle.desk.proofs.Laws.{grounds, ground-first}
 use Rattle.desk.proofs.Whole.{are-whole, are-cut, cut-first, tried-refused, ground-place}

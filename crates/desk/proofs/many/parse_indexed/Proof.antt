@@ -1,4 +1,4 @@
-use mathlib.Core.Path.{_≡_, refl, sym, _∙_}
+use mathlib.Core.Path.{refl, _∙_}
 use native.Mathlib.Omega.{arith}
 use denote.Ref.{now}
 use borrow.Author.Needs.{needs}
@@ -10,7 +10,8 @@ use lib.Seq.{length-take-le}
 use Rattle.rules.specs.laws.Words.{rules-good}
 use Rattle.rows.specs.laws.Fair.{tables-fair, tables-few}
 use Rattle.desk.specs.Code.{askedMany, lentMany}
-use Rattle.desk.proofs.Whole.{few-answers, few-index, none-fails, tried-refused, tried-accepted, take-few, second-length, three, three-kept, three-long, first-part, second-part, third-length, third-part}
+use Rattle.desk.specs.laws.Batches.{fits-fails-none}
+use Rattle.desk.proofs.Whole.{few-answers, few-index, tried-refused, tried-accepted, take-few, second-length, three, three-kept, three-long, first-part, second-part, third-length, third-part}
 use Rattle.desk.proofs.many.parse_indexed.Statement.{statement}
 use Rattle.desk.proofs.many.parse_indexed.Tie as tie
 
@@ -105,7 +106,7 @@ returns-3 c =
     let q = askedMany (a .codes) (now (a .rules)) (now (a .nodes)) (now (a .edges)) (now (a .statements)) in
     let s = lentMany (now (a .frames)) (now (a .list)) (now (a .work)) (now (a .answers)) (now (a .index)) in
     let w = c .before .before .before .before .before .before .before .before .parse-all in
-    let f = none-fails q s (p .0 .rules) (p .0 .tables) (p .1) (omega (arith, p .2, c .before .before .before .before .before .before .before .before .before .before .before .before .before .before .before .before .before .before .before .before .before .before .before .before .before .before .before .before .before .before .if1 .left)) (omega (arith, c .before .before .before .before .before .before .before .before .before .before .before .before .before .before .before .before .before .before .before .before .before .before .before .before .before .before .before .before .before .before .before .count .ensures, c .before .before .before .before .before .before .before .before .before .before .before .before .before .before .before .before .before .before .before .before .before .before .before .before .before .before .before .before .before .if2 .left)) in
+    let f = fits-fails-none q s (record { rules = p .0 .rules; tables = p .0 .tables; statements = p .1; answers = omega (arith, p .2, c .before .before .before .before .before .before .before .before .before .before .before .before .before .before .before .before .before .before .before .before .before .before .before .before .before .before .before .before .before .before .if1 .left); index = omega (arith, c .before .before .before .before .before .before .before .before .before .before .before .before .before .before .before .before .before .before .before .before .before .before .before .before .before .before .before .before .before .before .before .count .ensures, c .before .before .before .before .before .before .before .before .before .before .before .before .before .before .before .before .before .before .before .before .before .before .before .before .before .before .before .before .before .if2 .left) }) in
     tried-accepted q _ s _ _ (w .kept .1 .1 .1 .1 .1 .1 .1 .1 .1 .1 .0) (w .kept .1 .1 .1 .1 .1 .1 .1 .1 .1 .1 .1 .1 .0) f _ _ (p .2) (w .ensures)
 
 -- the index is as long as it was
