@@ -1,4 +1,6 @@
 // The entry points. None asks anything of its caller: any words may come in any slice.
+#![tactic(auto)]
+
 mod many;
 
 ghost use Rattle.std.specs.Prelude.{◌≡◌, true, ◌≤◌, length, get_or};

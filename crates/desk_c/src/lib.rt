@@ -1,5 +1,7 @@
 // The C boundary: the entry points of `desk` under C names. A slice passes as a pointer and a length. Nothing is asked of a caller but that its
 // slices are there; what comes back is what `desk` says.
+#![tactic(auto)]
+
 ghost use Rattle.std.specs.Prelude.{◌≡◌, length};
 ghost use Rattle.rules.specs.Code.{stretch_of};
 ghost use Rattle.package.specs.Code.{read_is, written_is};

@@ -1,4 +1,6 @@
 // A formula's postfix list in lent slices: reducing, and the check.
+#![tactic(auto)]
+
 mod sizes;
 mod tail;
 

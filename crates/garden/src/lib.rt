@@ -1,4 +1,6 @@
 // Garden paths: the commands that are run after the rules, and the whole build.
+#![tactic(auto)]
+
 pub mod clones;
 pub mod copy;
 pub mod lists;

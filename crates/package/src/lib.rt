@@ -1,4 +1,6 @@
 // Rule packages: bytes read as typecodes, rules and statements, and these written as bytes.
+#![tactic(auto)]
+
 mod put;
 pub mod reader;
 mod record;

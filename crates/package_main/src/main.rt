@@ -1,6 +1,8 @@
 // Says all that the entry points answer about a package: its typecodes and counts, its tree, and each of its statements. The standard input
 // is the package, or a text that starts with `#`, as no good package does. A line of the text is a package in hex digits, or a remark: that
 // is written out again.
+#![tactic(auto)]
+
 mod answers;
 mod hex;
 mod sentence;

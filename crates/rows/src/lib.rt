@@ -1,4 +1,6 @@
 // Node and edge rows, look-up, reduce lists and the table check.
+#![tactic(auto)]
+
 ghost use Rattle.std.specs.Prelude.{◌≡◌, true, not, ◌+◌, ◌/◌, ◌%◌, ◌≤◌, ◌<◌, ltb, length, get_or, drop};
 ghost use Rattle.words.specs.Limits.{row_width, most_reduces, most_offset, most_nodes, most_edges};
 ghost use Rattle.rows.specs.Rows.{edge_of, rows_from, edges_of, row_words, below, precedes, rising, keyed, bare, good_nodes, good_pair, root_to_leaf, good_ends, nodes_good, edges_good, tables_good};

@@ -1,6 +1,8 @@
 // Runs the training sheet through the entry points. The sheet is the standard input. A line of it sets a table, or is a row: a call, and
 // all that is to come back. Each line is written out again, a row with the numbers that did come back and whether they, and every lent
 // word, are as on the sheet. The first letter of a line says what it is.
+#![tactic(auto)]
+
 mod calls;
 mod show;
 mod tables;

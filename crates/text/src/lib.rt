@@ -1,4 +1,6 @@
 // The text that a program reads and writes: its lines, the fields of a line, and the words of a field.
+#![tactic(auto)]
+
 ghost use Rattle.std.specs.Prelude.{◌≤◌, length};
 
 // The most words of a program's slice: 64 KiB.

@@ -1,4 +1,6 @@
 // Growing the tree: rules in order; conversions in order stand in `convert`.
+#![tactic(auto)]
+
 pub mod convert;
 mod place;
 pub mod table;

@@ -1,4 +1,6 @@
 // One pass of the walk, and the passes under an allowance.
+#![tactic(auto)]
+
 ghost use Rattle.std.specs.Prelude.{◌≡◌, true, ◌/◌, ◌≤◌, ◌<◌, length, get_or, drop};
 ghost use Rattle.words.specs.Limits.{row_width, most_reduces, most_tokens};
 ghost use Rattle.words.specs.Numbers.{number, place};

@@ -1,5 +1,5 @@
 -- The limits of paper 01, each once.
-use Rattle.std.specs.Prelude.{ℕ, ◌+◌}
+use Rattle.std.specs.Prelude.{ℕ}
 
 -- symbols and typecodes are 1 to this
 abbrev pub most_symbol : ℕ

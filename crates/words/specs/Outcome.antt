@@ -1,5 +1,5 @@
 -- A value or a refusal, and the order in which refusals are tried.
-use Rattle.std.specs.Prelude.{Bool, true, false, ◌&&◌, List, [], ◌∷◌, ℕ, zero, suc, eqb, leb}
+use Rattle.std.specs.Prelude.{Bool, true, false, ◌&&◌, List, [], ◌∷◌, ℕ, eqb, leb}
 use Rattle.words.specs.Numbers.{accepted}
 
 pub data Res (E A : Type 0) : Type 0 where

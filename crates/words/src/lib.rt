@@ -1,4 +1,6 @@
 // The limits, the numbers given back, one type for each kind of number, and writing to a lent slice.
+#![tactic(auto)]
+
 ghost use Rattle.std.specs.Prelude.{◌≡◌, ◌+◌, ◌≤◌, ◌<◌, length};
 ghost use Rattle.words.specs.Lent.{zeros, cleared_from, moved_up, inserted};
 ghost use Rattle.words.specs.Outcome.{lesser};

@@ -1,6 +1,6 @@
 -- Counted words are the lists that they say.
-use Rattle.std.specs.Prelude.{ℕ, zero, suc, ◌+◌, ◌-◌, ◌≤◌, ◌<◌, ◌≡◌, refl, Bool, true, false, List, [], ◌∷◌, ◌++◌, leb, length, get_or, take, drop}
-use Rattle.std.proofs.Common.{sym, ap, ◌∙◌, arith, length-append, length-drop, take-append-drop, take_at, drop_at, length-take-le, leb-true, le-leb}
+use Rattle.std.specs.Prelude.{ℕ, zero, suc, ◌≤◌, ◌≡◌, refl, Bool, true, false, List, [], ◌∷◌, ◌++◌, leb, length, take, drop}
+use Rattle.std.proofs.Common.{sym, ap, ◌∙◌, arith, length-append, take-append-drop, take_at, drop_at, length-take-le, leb-true, le-leb}
 use Rattle.words.specs.Outcome.{Res, ok, no, bind, pick}
 use Rattle.words.specs.Counted.{counted, lists_from, lists_of, the_lists}
 

@@ -1,7 +1,6 @@
 -- What the number of the first failing demand says.
-use Rattle.std.specs.Prelude.{◌≡◌, refl, Bool, true, false, List, [], ◌∷◌, ◌++◌, ◌≢◌, ◌↔◌, ℕ, zero, suc, ◌≤◌}
-use Rattle.std.proofs.Common.{sym, ◌∙◌, arith}
-use Rattle.std.proofs.lemmas.Bool.{false≢true}
+use Rattle.std.specs.Prelude.{◌≡◌, refl, Bool, true, false, List, [], ◌∷◌, ◌++◌, ◌≢◌, ℕ, suc, ◌≤◌}
+use Rattle.std.proofs.Common.{arith}
 use Rattle.words.specs.Outcome.{Demand, demand, first_fault}
 use Rattle.words.specs.Numbers.{accepted}
 

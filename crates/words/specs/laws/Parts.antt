@@ -1,5 +1,5 @@
 -- Parts of a slice.
-use Rattle.std.specs.Prelude.{◌≡◌, refl, List, ℕ, ◌+◌, ◌-◌, ◌≤◌, length, take, drop}
+use Rattle.std.specs.Prelude.{◌≡◌, List, ℕ, ◌+◌, ◌-◌, ◌≤◌, length, take, drop}
 use Rattle.std.proofs.Common.{ap, ◌∙◌, arith, length-drop, length-append, take_all}
 use Rattle.std.proofs.lemmas.List.{length-replicate}
 use Rattle.words.specs.Lent.{zeros, padded}

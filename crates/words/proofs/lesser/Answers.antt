@@ -1,0 +1,8 @@
+use Rattle.words.specs.laws.Tests.{tests}
+use Rattle.words.proofs.lesser.Goals as goal
+
+pub returns-then-a-b : goal.returns-then-a-b
+returns-then-a-b c = search tests
+
+pub returns : goal.returns
+returns c = search tests
