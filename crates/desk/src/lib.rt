@@ -15,7 +15,7 @@ ghost use Rattle.desk.specs.Code.{verified_is, built_is, Raised, parsed_is, Trie
 
 // What a parse or a check answers: the number, the place, the length of the list and the passes.
 #[repr(C)]
-#[derive(Drop)]
+#[derive(Clone, Copy)]
 pub struct Answer {
     pub number: u32,
     pub place: u32,
@@ -25,7 +25,7 @@ pub struct Answer {
 
 // What a batch answers: the number, the place, and the counts of statements and of list words.
 #[repr(C)]
-#[derive(Drop)]
+#[derive(Clone, Copy)]
 pub struct Batch {
     pub number: u32,
     pub place: usize,
@@ -35,7 +35,7 @@ pub struct Batch {
 
 // What a build answers: the number, and the counts of nodes and edges.
 #[repr(C)]
-#[derive(Drop)]
+#[derive(Clone, Copy)]
 pub struct Made {
     pub number: u32,
     pub nodes: u32,

@@ -11,7 +11,7 @@ use super::{Answer, Batch, ground_fault, parse_one};
 pub const ANSWER_WIDTH: usize = 4;
 
 // How much of the list slice and of the answer slice is used.
-#[derive(Drop)]
+#[derive(Clone, Copy)]
 struct Used {
     list: usize,
     answers: usize,

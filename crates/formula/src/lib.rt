@@ -15,13 +15,13 @@ ghost use Rattle.formula.specs.Code.{trees_of, Inside, Gives, Whole, Stacked, Tu
 
 // The trees of a walk. The first `len` words of the list are theirs, the first `count` words of the work slice their sizes, the bottom
 // tree's first.
-#[derive(Drop)]
+#[derive(Clone, Copy)]
 pub struct Trees {
     pub count: usize,
     pub len: usize,
 }
 
-#[derive(Drop)]
+#[derive(Clone, Copy)]
 pub enum Reduced {
     Done(Trees),
     TooFew,
@@ -90,14 +90,14 @@ pub fn reduce_all(
 const PLACES: u32 = 64;
 
 // The bodies that are pending, and the tokens and entries that are left.
-#[derive(Drop)]
+#[derive(Clone, Copy)]
 struct Seek {
     depth: usize,
     token: usize,
     entry: usize,
 }
 
-#[derive(Drop)]
+#[derive(Clone, Copy)]
 enum Turn {
     On(Seek),
     Ended(bool),

@@ -9,7 +9,7 @@ ghost use Rattle.formula.specs.TailCode.{Sized, Joins, Measures};
 use super::Trees;
 
 // What a reduce comes to: the words of the list before its entry, and the trees after it.
-#[derive(Drop)]
+#[derive(Clone, Copy)]
 pub enum Fit {
     At(usize, Trees),
     TooFew,

@@ -10,7 +10,7 @@ ghost use Rattle.garden.specs.Code.{NextAt, cloning_of, frame_is, bounds_of, Sta
 use crate::{copy, row};
 
 // A clone that has begun: how many rows stood then, and how many of the node's own are taken up.
-#[derive(Drop)]
+#[derive(Clone, Copy)]
 pub struct Frame {
     pub clone: rows::Edge,
     pub stood: usize,
@@ -18,14 +18,14 @@ pub struct Frame {
 }
 
 // How far a garden path's clones are: the counts, the frames in use, and the rows that may still be taken up.
-#[derive(Drop)]
+#[derive(Clone, Copy)]
 pub struct Stage {
     pub counts: tree::Counts,
     pub depth: usize,
     pub left: usize,
 }
 
-#[derive(Drop)]
+#[derive(Clone, Copy)]
 pub enum Turned {
     On(Stage),
     Refused(tree::Fault),

@@ -16,7 +16,7 @@ ghost use Rattle.garden.specs.Garden.{good_pairs, command_of, the_commands, hand
 ghost use Rattle.garden.specs.Code.{bounds_of, command_is, CommandIn, Sized, Handles};
 
 // A command that stands first: the conversions, a path with so many words of prefix and shadow, or no command.
-#[derive(Drop)]
+#[derive(Clone, Copy)]
 pub enum Command {
     Conversions,
     Path(usize, usize),
@@ -24,7 +24,7 @@ pub enum Command {
 }
 
 // What the commands have come to, and whether one of them was the conversions.
-#[derive(Drop)]
+#[derive(Clone, Copy)]
 pub struct Handled {
     pub grew: tree::Grew,
     pub asked: bool,

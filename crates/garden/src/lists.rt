@@ -7,7 +7,7 @@ ghost use Rattle.garden.specs.Garden.{increment_offsets, raised_on, extend, diff
 ghost use Rattle.garden.specs.Code.{has_rule, Lists, Carries};
 
 // A list, or why there is none.
-#[derive(Drop)]
+#[derive(Clone, Copy)]
 pub struct Listed {
     pub ok: bool,
     pub why: tree::Fault,

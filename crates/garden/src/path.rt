@@ -10,14 +10,14 @@ ghost use Rattle.garden.specs.Code.{pair_at, reached_of, ReachedIn, parted_of, P
 use crate::{clones, copy, lists};
 
 // Where the two lists part: the node there, and the word where the pair starts.
-#[derive(Drop)]
+#[derive(Clone, Copy)]
 pub enum Parted {
     At(words::NodeNo, usize),
     Bad,
 }
 
 // A node that is led to, or 16.
-#[derive(Drop)]
+#[derive(Clone, Copy)]
 pub enum Reached {
     Node(words::NodeNo),
     Nothing,

@@ -14,7 +14,7 @@ ghost use Rattle.garden.specs.Code.{listed_of, leaf_row, leaf_rows, Keeps, Takes
 use crate::{copy, lists};
 
 // What comes of a row: the counts, or the refusal; and the clone that has to begin, if any.
-#[derive(Drop)]
+#[derive(Clone, Copy)]
 pub struct Taken {
     pub grew: tree::Grew,
     pub begins: bool,

@@ -12,7 +12,7 @@ ghost use Rattle.package.specs.Package.{head_demands, read_gives, write_gives};
 ghost use Rattle.package.specs.Code.{found_in, read_is, Settled, written_is, Weighed, Composed};
 
 // The record at a place: its kind and all its bytes, or the number that it is refused with.
-#[derive(Drop)]
+#[derive(Clone, Copy)]
 pub enum Found {
     Record { kind: u32, size: usize },
     Refused(u32),
@@ -20,7 +20,7 @@ pub enum Found {
 
 // What a read answers: the number, the place, both typecodes, and the counts of rule words, of statements and of statement words.
 #[repr(C)]
-#[derive(Drop)]
+#[derive(Clone, Copy)]
 pub struct Package {
     pub number: u32,
     pub place: usize,
@@ -33,7 +33,7 @@ pub struct Package {
 
 // What a write answers: the number, the place, and the count of bytes.
 #[repr(C)]
-#[derive(Drop)]
+#[derive(Clone, Copy)]
 pub struct Written {
     pub number: u32,
     pub place: usize,

@@ -5,7 +5,7 @@ ghost use Rattle.package.specs.Code.{found_in};
 
 use super::{Found, record};
 
-#[derive(Drop)]
+#[derive(Clone, Copy)]
 pub struct Reader<'a> {
     pub bytes: &'a [u8],
     pub at: usize,

@@ -11,14 +11,14 @@ ghost use Rattle.rules.specs.laws.Every.{All};
 const PLACES: usize = words::MOST_REDUCES as usize;
 
 // A rule, reduced under the top `offset` trees.
-#[derive(Drop)]
+#[derive(Clone, Copy)]
 pub struct Reduce {
     pub rule: words::RuleNo,
     pub offset: u32,
 }
 
 // An edge by value. Of its places the first `count` are its reduces; the others hold anything.
-#[derive(Drop)]
+#[derive(Clone, Copy)]
 pub struct Edge {
     pub from: words::NodeNo,
     pub kind: u32,
@@ -29,20 +29,20 @@ pub struct Edge {
 }
 
 // An edge with one reduce more, or as it was where no place is free.
-#[derive(Drop)]
+#[derive(Clone, Copy)]
 pub struct Added {
     pub ok: bool,
     pub edge: Edge,
 }
 
-#[derive(Drop)]
+#[derive(Clone, Copy)]
 pub enum Found {
     Row(usize),
     Nothing,
 }
 
 // The rows from `low` on, up to `high`.
-#[derive(Drop)]
+#[derive(Clone, Copy)]
 struct Span {
     low: usize,
     high: usize,

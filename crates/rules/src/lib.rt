@@ -15,35 +15,35 @@ pub const ITEM_WIDTH: usize = 3;
 const MARK: u32 = 64;
 
 // The two typecodes that come with the rules.
-#[derive(Drop)]
+#[derive(Clone, Copy)]
 pub struct Codes {
     pub provable: words::SymbolNo,
     pub logic: words::SymbolNo,
 }
 
 // What stands first in a slice of rules: a good rule of so many words, or none.
-#[derive(Drop)]
+#[derive(Clone, Copy)]
 pub enum First {
     Size(usize),
     Bad,
 }
 
 // The word at which a rule starts.
-#[derive(Drop)]
+#[derive(Clone, Copy)]
 pub enum Start {
     At(usize),
     Nothing,
 }
 
 // One place of a body.
-#[derive(Drop)]
+#[derive(Clone, Copy)]
 pub enum Item {
     Con(words::SymbolNo),
     Slot(words::SymbolNo),
 }
 
 // The typecode that a conversion goes from.
-#[derive(Drop)]
+#[derive(Clone, Copy)]
 pub enum Conversion {
     From(words::SymbolNo),
     No,
@@ -51,7 +51,7 @@ pub enum Conversion {
 
 // A part of the rule slice.
 #[repr(C)]
-#[derive(Drop)]
+#[derive(Clone, Copy)]
 pub struct Stretch {
     pub start: u32,
     pub length: u32,

@@ -12,7 +12,7 @@ ghost use Rattle.tree.specs.Code.{room_of, grown_of, edges_in, reduces_in, copy_
 use super::{Counts, Fault, Grew, Room, table};
 
 // A conversion: its rule, and the typecodes that it goes from and to.
-#[derive(Drop)]
+#[derive(Clone, Copy)]
 pub struct Change {
     pub rule: words::RuleNo,
     pub source: words::SymbolNo,

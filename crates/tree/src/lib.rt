@@ -12,21 +12,21 @@ ghost use Rattle.tree.specs.Grow.{plant};
 ghost use Rattle.tree.specs.Code.{room_of, Within, Meets, Ready, Finishes};
 
 // How many nodes and edges there is room for.
-#[derive(Drop)]
+#[derive(Clone, Copy)]
 pub struct Room {
     pub nodes: usize,
     pub edges: usize,
 }
 
 // How many there are so far.
-#[derive(Drop)]
+#[derive(Clone, Copy)]
 pub struct Counts {
     pub nodes: usize,
     pub edges: usize,
 }
 
 // Why a build is refused.
-#[derive(Drop)]
+#[derive(Clone, Copy)]
 pub enum Fault {
     Collides,
     NoNode,
@@ -39,7 +39,7 @@ pub enum Fault {
 }
 
 // The counts after a step, or its refusal.
-#[derive(Drop)]
+#[derive(Clone, Copy)]
 pub enum Grew {
     On(Counts),
     Refused(Fault),

@@ -10,7 +10,7 @@ ghost use Rattle.tree.specs.Code.{room_of, edges_in, grown_of, Stands, branch_of
 use super::{Counts, Fault, Grew, Room, table};
 
 // Where the next item of a body is placed, or why it can't be.
-#[derive(Drop)]
+#[derive(Clone, Copy)]
 pub enum Placed {
     At(Counts, words::NodeNo),
     Stuck(Fault),

@@ -17,7 +17,7 @@ ghost use Rattle.walk.specs.Code.{stack, why_of, wish_of, Wants, Converts, Choos
 const MOST_ROOM: usize = 4294967295;
 
 // Where a walk stands: its node, how many frames and which trees are in use, the place of the next token, and the last one noted.
-#[derive(Drop)]
+#[derive(Clone, Copy)]
 pub struct At {
     pub node: words::NodeNo,
     pub frames: usize,
@@ -27,14 +27,14 @@ pub struct At {
 }
 
 // What is wanted of a tree: the goal's typecode, or one that the top frame's node has a variable edge for.
-#[derive(Drop)]
+#[derive(Clone, Copy)]
 pub enum Wish {
     Goal(words::SymbolNo),
     Frame(words::NodeNo),
 }
 
 // What a pass goes by: the typecode wanted without frames, what is wanted now, the list room, and where the walk stands.
-#[derive(Drop)]
+#[derive(Clone, Copy)]
 pub struct Stand {
     pub goal: words::SymbolNo,
     pub wish: Wish,
@@ -43,14 +43,14 @@ pub struct Stand {
 }
 
 // A tree of typecode `t` is complete.
-#[derive(Drop)]
+#[derive(Clone, Copy)]
 pub struct Grown {
     pub t: words::SymbolNo,
     pub stand: Stand,
 }
 
 // What a walk is held to: the typecode wanted without frames, the passes allowed, and the list room.
-#[derive(Drop)]
+#[derive(Clone, Copy)]
 pub struct Held {
     pub goal: words::SymbolNo,
     pub allowance: u32,
@@ -58,21 +58,21 @@ pub struct Held {
 }
 
 // What a caller of a walk says: its typecodes, and the passes allowed.
-#[derive(Drop)]
+#[derive(Clone, Copy)]
 pub struct Terms {
     pub codes: rules::Codes,
     pub allowance: u32,
 }
 
 // What stands at a node.
-#[derive(Drop)]
+#[derive(Clone, Copy)]
 pub enum Node {
     Branch,
     Leaf(words::RuleNo),
 }
 
 // Why a pass is refused, with the place of the token where there is one.
-#[derive(Drop)]
+#[derive(Clone, Copy)]
 pub enum Why {
     Unparseable(u32),
     TooShort(u32),
@@ -82,7 +82,7 @@ pub enum Why {
 }
 
 // What comes of a pass: the walk goes on, ends with a list of so many words, or is refused.
-#[derive(Drop)]
+#[derive(Clone, Copy)]
 pub enum Turn {
     On(At),
     End(usize),
@@ -90,21 +90,21 @@ pub enum Turn {
 }
 
 // A conversion: its rule, and the typecode that it goes to.
-#[derive(Drop)]
+#[derive(Clone, Copy)]
 pub struct Choice {
     pub rule: words::RuleNo,
     pub to: words::SymbolNo,
 }
 
 // The conversion that is taken at the end.
-#[derive(Drop)]
+#[derive(Clone, Copy)]
 pub enum Chosen {
     By(Choice),
     Nothing,
 }
 
 // What a walk gives back. The list is the first `length` words of the list slice.
-#[derive(Drop)]
+#[derive(Clone, Copy)]
 pub struct Walked {
     pub number: u32,
     pub place: u32,

@@ -77,17 +77,17 @@ pub const WRONG_SIZE: u32 = 22;
 
 pub const WRONG_ORDER: u32 = 23;
 
-#[derive(Drop)]
+#[derive(Clone, Copy)]
 pub struct RuleNo(pub u32);
 
-#[derive(Drop)]
+#[derive(Clone, Copy)]
 pub struct NodeNo(pub u32);
 
-#[derive(Drop)]
+#[derive(Clone, Copy)]
 pub struct SymbolNo(pub u32);
 
 // Counted words: how many lists they are, or the number of the first whose count passes the end.
-#[derive(Drop)]
+#[derive(Clone, Copy)]
 pub enum Lists {
     Whole(usize),
     Cut(usize),

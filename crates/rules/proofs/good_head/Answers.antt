@@ -1,0 +1,19 @@
+use Rattle.rules.specs.Rules.{good_head}
+use Rattle.words.specs.laws.Tests.{tests, failed, passed}
+use Rattle.rules.proofs.good_head.Goals as goal
+
+pub returns-then-res-provable : goal.returns-then-res-provable
+unfolding good_head
+returns-then-res-provable c = search tests
+
+pub returns-then-not-symbol : goal.returns-then-not-symbol
+unfolding good_head
+returns-then-not-symbol c = search (tests, failed c.symbol.ensures c.if-not-symbol.true-raw)
+
+pub returns-then-items-lt1 : goal.returns-then-items-lt1
+unfolding good_head
+returns-then-items-lt1 c = search (tests, passed c.symbol.ensures c.if-not-symbol.false-raw)
+
+pub returns : goal.returns
+unfolding good_head
+returns c = search (tests, passed c.symbol.ensures c.if-not-symbol.false-raw)

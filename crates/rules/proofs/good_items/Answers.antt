@@ -1,0 +1,42 @@
+use borrow.Author.Rules.{rules}
+use Rattle.words.specs.laws.Tests.{tests, failed, passed}
+use Rattle.rules.specs.laws.Words.{items-good-end, items-good-odd, items-good-step}
+use Rattle.rules.proofs.good_items.Goals as goal
+
+pub returns-then-body-i-lt-ITEM_WIDTH : goal.returns-then-body-i-lt-ITEM_WIDTH
+returns-then-body-i-lt-ITEM_WIDTH c =
+    let l = c.loop-i in
+    let body = c.args.body.now in
+    search (← l.invariant.1, items-good-odd body l.i (search rules) (search rules))
+
+pub returns-then-kind-gt1 : goal.returns-then-kind-gt1
+returns-then-kind-gt1 c =
+    let l = c.loop-i in
+    let body = c.args.body.now in
+    search (tests, ← l.invariant.1, items-good-step body l.i (search rules))
+
+pub returns-then-not-symbol : goal.returns-then-not-symbol
+returns-then-not-symbol c =
+    let l = c.loop-i in
+    let body = c.args.body.now in
+    search (tests, ← l.invariant.1, items-good-step body l.i (search rules), failed c.symbol.ensures c.if-not-symbol.true-raw)
+
+pub returns-then-not-third : goal.returns-then-not-third
+returns-then-not-third c =
+    let l = c.loop-i in
+    let body = c.args.body.now in
+    let s = passed c.symbol.ensures c.if-not-symbol.false-raw in
+    search (tests, ← l.invariant.1, items-good-step body l.i (search rules), s, failed c.third.ensures c.if-not-third.true-raw)
+
+pub loop-i-preserved : goal.loop-i-preserved
+loop-i-preserved c =
+    let l = c.loop-i in
+    let body = c.args.body.now in
+    let s = passed c.symbol.ensures c.if-not-symbol.false-raw in
+    (search rules, search (tests, ← l.invariant.1, items-good-step body l.i (search rules), s, passed c.third.ensures c.if-not-third.false-raw))
+
+pub returns : goal.returns
+returns c =
+    let l = c.loop-i in
+    let body = c.args.body.now in
+    search (← l.invariant.1, items-good-end body l.i (search rules))

@@ -1,0 +1,6 @@
+use mathlib.Core.Path.{sym}
+use Rattle.rules.specs.laws.Words.{items-count}
+use Rattle.rules.proofs.items_in.Goals as goal
+
+pub returns : goal.returns
+returns c = sym (items-count c.args.body.now)
