@@ -3,7 +3,7 @@ use Rattle.std.specs.Prelude.{◌≡◌, refl, Bool, true, false, not, ◌&&◌,
 use Rattle.std.proofs.Math.Option.{none, some}
 use Rattle.words.specs.Lent.{zeros}
 use Rattle.rows.specs.Rows.{Reduce, Edge, edge_of, edges_of, row_words, edge_words, rising, insert_edge, find, leaving, bare, with_reduce, tables_good, tabling}
-use Rattle.rows.specs.Sheet.{edge, five, nodes-S, edges-S, tables}
+use Rattle.rows.specs.Sheet.{edge, nodes-S, edges-S, tables}
 
 -- ---- set S
 

@@ -1,0 +1,15 @@
+use Rattle.rows.specs.Rows.{below, edge_of}
+use Rattle.words.specs.laws.Tests.{tests}
+use Rattle.rows.proofs.row_below.Goals as goal
+
+pub returns-then-row-from : goal.returns-then-row-from
+unfolding below edge_of
+returns-then-row-from c = search tests
+
+pub returns-then-row-kind : goal.returns-then-row-kind
+unfolding below edge_of
+returns-then-row-kind c = search tests
+
+pub returns : goal.returns
+unfolding below edge_of
+returns c = search tests
