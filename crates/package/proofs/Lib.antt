@@ -1,5 +1,4 @@
 pub mod Numbers
-pub mod Held
 pub mod Heads
 pub mod Reading
 pub mod Renewing

@@ -6,7 +6,7 @@ use Rattle.std.proofs.lemmas.Bool.{false≢true, not-true}
 use native.Mathlib.Omega.{arith}
 use Rattle.std.proofs.lemmas.List.{length-replicate}
 use Rattle.words.specs.Limits.{most_rules}
-use Rattle.words.specs.Lent.{zeros, padded}
+use Rattle.words.specs.Lent.{padded}
 use Rattle.words.specs.Counted.{counted, lists_of, the_lists}
 use Rattle.words.specs.Numbers.{accepted, no_room, bad_rules, wrong_size}
 use Rattle.words.specs.Outcome.{Res, ok, no, pick, Demand, demand, first_fault}
