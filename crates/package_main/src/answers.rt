@@ -2,6 +2,7 @@
 ghost use Rattle.std.specs.Prelude.{◌+◌, ◌≤◌, ◌<◌, length};
 
 use crate::sentence;
+use std::io;
 
 // The words that are in use: never more than there are.
 fn front(s: &[u32], n: usize) -> &[u32] {
@@ -11,9 +12,9 @@ fn front(s: &[u32], n: usize) -> &[u32] {
     &s[0..0]
 }
 
-fn field(name: &[u8], x: usize) {
-    text::say(name);
-    io::print_decimal(1, x as u64);
+fn field<P: Print>(rt: &P, name: &[u8], x: usize) -> io::Result<()> {
+    text::say(rt, name)?;
+    rt.print(x)
 }
 
 // ---- a statement
@@ -26,32 +27,34 @@ fn allowance(tokens: &[u32]) -> u32 {
     4 * (tokens.len() as u32)
 }
 
-fn show_list(list: &[u32]) {
-    text::say(b", list");
+fn show_list<P: Print>(rt: &P, list: &[u32]) -> io::Result<()> {
+    text::say(rt, b", list")?;
     let mut i = 0;
     while i < list.len() {
-        text::say_word(list[i]);
+        text::say_word(rt, list[i])?;
         i += 1;
     }
+    Ok(())
 }
 
-fn show_answer(k: usize, a: desk::Answer, list: &[u32]) {
-    field(b"statement ", k);
-    field(b": number ", a.number as usize);
-    field(b", place ", a.place as usize);
-    field(b", passes ", a.passes as usize);
-    show_list(list);
-    sentence::end_line(a.number);
+fn show_answer<P: Print>(rt: &P, k: usize, a: desk::Answer, list: &[u32]) -> io::Result<()> {
+    field(rt, b"statement ", k)?;
+    field(rt, b": number ", a.number as usize)?;
+    field(rt, b", place ", a.place as usize)?;
+    field(rt, b", passes ", a.passes as usize)?;
+    show_list(rt, list)?;
+    sentence::end_line(rt, a.number)
 }
 
-fn statement(
+fn statement<P: Print>(
+    rt: &P,
     k: usize,
     codes: rules::Codes,
     rules: &[u32],
     nodes: &[u32],
     edges: &[u32],
     tokens: &[u32],
-) {
+) -> io::Result<()> {
     let mut frames = [0u32; text::MOST];
     let mut list = [0u32; text::MOST];
     let mut work = [0u32; text::MOST];
@@ -66,7 +69,7 @@ fn statement(
         &mut list,
         &mut work,
     );
-    show_answer(k, a, front(&list, a.length as usize));
+    show_answer(rt, k, a, front(&list, a.length as usize))
 }
 
 // The tokens of the statement whose count stands here: never more than there are words.
@@ -83,28 +86,36 @@ fn tokens_at(statements: &[u32], at: usize) -> &[u32]
     &statements[start..start]
 }
 
-fn statements(codes: rules::Codes, rules: &[u32], nodes: &[u32], edges: &[u32], all: &[u32]) {
+fn statements<P: Print>(
+    rt: &P,
+    codes: rules::Codes,
+    rules: &[u32],
+    nodes: &[u32],
+    edges: &[u32],
+    all: &[u32],
+) -> io::Result<()> {
     let mut at = 0;
     let mut k: usize = 0;
     while at < all.len() {
         let tokens = tokens_at(all, at);
-        statement(k, codes, rules, nodes, edges, tokens);
+        statement(rt, k, codes, rules, nodes, edges, tokens)?;
         at += 1 + tokens.len();
         k += 1;
     }
+    Ok(())
 }
 
 // ---- the tree
 
-fn show_tree(m: desk::Made) {
-    field(b"tree: number ", m.number as usize);
-    field(b", nodes ", m.nodes as usize);
-    field(b", edges ", m.edges as usize);
-    sentence::end_line(m.number);
+fn show_tree<P: Print>(rt: &P, m: desk::Made) -> io::Result<()> {
+    field(rt, b"tree: number ", m.number as usize)?;
+    field(rt, b", nodes ", m.nodes as usize)?;
+    field(rt, b", edges ", m.edges as usize)?;
+    sentence::end_line(rt, m.number)
 }
 
 // A package has no commands, so no frame is needed.
-fn tree(codes: rules::Codes, rules: &[u32], all: &[u32]) {
+fn tree<P: Print>(rt: &P, codes: rules::Codes, rules: &[u32], all: &[u32]) -> io::Result<()> {
     let mut nodes = [0u32; text::MOST];
     let mut edges = [0u32; text::MOST];
     let mut frames = [0u32; 1];
@@ -116,46 +127,46 @@ fn tree(codes: rules::Codes, rules: &[u32], all: &[u32]) {
         &mut edges,
         &mut frames,
     );
-    show_tree(m);
+    show_tree(rt, m)?;
     if m.number != words::ACCEPTED {
-        return;
+        return Ok(());
     }
     let n = m.nodes as usize;
     let e = words::ROW_WIDTH * (m.edges as usize);
-    statements(codes, rules, front(&nodes, n), front(&edges, e), all);
+    statements(rt, codes, rules, front(&nodes, n), front(&edges, e), all)
 }
 
 // ---- the package
 
-fn show_package(p: package::Package) {
-    field(b"package: number ", p.number as usize);
-    field(b", place ", p.place);
-    sentence::end_line(p.number);
+fn show_package<P: Print>(rt: &P, p: package::Package) -> io::Result<()> {
+    field(rt, b"package: number ", p.number as usize)?;
+    field(rt, b", place ", p.place)?;
+    sentence::end_line(rt, p.number)
 }
 
-fn show_counts(p: package::Package) {
-    field(b"typecodes: provable ", p.provable as usize);
-    field(b", logic ", p.logic as usize);
-    field(b"\ncounts: rule words ", p.rules);
-    field(b", statements ", p.statements);
-    field(b", statement words ", p.words);
-    text::say(b"\n");
+fn show_counts<P: Print>(rt: &P, p: package::Package) -> io::Result<()> {
+    field(rt, b"typecodes: provable ", p.provable as usize)?;
+    field(rt, b", logic ", p.logic as usize)?;
+    field(rt, b"\ncounts: rule words ", p.rules)?;
+    field(rt, b", statements ", p.statements)?;
+    field(rt, b", statement words ", p.words)?;
+    text::say(rt, b"\n")
 }
 
 // Four bytes are needed for each word of a statement, so the statements of a package that this program takes fit. Rules in the old form
 // may not: they have more words than their records, and 7 says so.
-pub fn package(bytes: &[u8]) {
+pub fn package<P: Print>(rt: &P, bytes: &[u8]) -> io::Result<()> {
     let mut rules = [0u32; text::MOST];
     let mut all = [0u32; text::MOST];
     let p = desk::read(bytes, &mut rules, &mut all);
-    show_package(p);
+    show_package(rt, p)?;
     if p.number != words::ACCEPTED {
-        return;
+        return Ok(());
     }
-    show_counts(p);
+    show_counts(rt, p)?;
     let codes = rules::Codes {
         provable: words::SymbolNo(p.provable),
         logic: words::SymbolNo(p.logic),
     };
-    tree(codes, front(&rules, p.rules), front(&all, p.words));
+    tree(rt, codes, front(&rules, p.rules), front(&all, p.words))
 }

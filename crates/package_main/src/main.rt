@@ -7,54 +7,55 @@ mod answers;
 mod hex;
 mod sentence;
 
+use std::io;
+
 // A package at the front of the slice; one that fills it may be longer.
-fn package(bytes: &[u8], n: usize) {
+fn package<P: Print>(rt: &P, bytes: &[u8], n: usize) -> io::Result<()> {
     if n < bytes.len() {
-        answers::package(&bytes[0..n]);
-        return;
+        return answers::package(rt, &bytes[0..n]);
     }
     if n == hex::UNREAD {
-        text::say(b"this line can't be read\n");
-        return;
+        return text::say(rt, b"this line can't be read\n");
     }
     text::say(
+        rt,
         b"package: REFUSED, it has more than the 65535 bytes that this program has room for\n",
-    );
+    )
 }
 
-fn in_hex(line: &[u8]) {
-    let mut bytes = io::large_buffer();
+fn in_hex<P: Print>(rt: &P, line: &[u8]) -> io::Result<()> {
+    let mut bytes = [0u8; 65536];
     let n = hex::put_line(line, &mut bytes);
-    package(&bytes, n);
+    package(rt, &bytes, n)
 }
 
-fn take(line: &[u8]) {
+fn take<P: Print>(rt: &P, line: &[u8]) -> io::Result<()> {
     if text::first(line) == text::REMARK {
-        text::say(line);
-        text::say(b"\n");
-        return;
+        text::say(rt, line)?;
+        return text::say(rt, b"\n");
     }
-    in_hex(line);
+    in_hex(rt, line)
 }
 
-fn each(lines: &[u8]) {
+fn each<P: Print>(rt: &P, lines: &[u8]) -> io::Result<()> {
     let count = text::pieces(lines, b'\n');
     let mut i = 0;
     while i < count {
-        take(text::piece(lines, i, b'\n'));
+        take(rt, text::piece(lines, i, b'\n'))?;
         i += 1;
     }
+    Ok(())
 }
 
-fn main() {
-    let mut all = io::large_buffer();
-    let n = io::read_full(0, &mut all);
+fn main(rt: HostRuntime) -> io::Result<()> {
+    let mut all = [0u8; 65536];
+    let n = text::read_full(&mut rt.stdin(), &mut all)?;
     if all[0] != text::REMARK {
-        package(&all, n);
-        return;
+        return package(&rt, &all, n);
     }
-    each(&all[..n]);
+    each(&rt, &all[..n])?;
     if n == 65536 {
-        text::say(b"the text is too long, its end is NOT read\n");
+        text::say(&rt, b"the text is too long, its end is NOT read\n")?;
     }
+    Ok(())
 }

@@ -7,6 +7,8 @@ mod calls;
 mod show;
 mod tables;
 
+use std::io;
+
 // How many fields a line has, the first included; 0 for one that is none of ours.
 fn fields(name: u8) -> usize {
     match name {
@@ -27,90 +29,91 @@ const OTHER: u32 = 3;
 const UNREAD: u32 = 7;
 
 // A row's call, with the commands, the list or the body of its second field.
-fn compare(name: u8, t: &[u32], field: &[u8]) -> u32 {
+fn compare<P: Print>(rt: &P, name: u8, t: &[u32], field: &[u8]) -> io::Result<u32> {
     let mut words = [0u32; text::MOST];
     if !text::read(field, &mut words) {
-        return UNREAD;
+        return Ok(UNREAD);
     }
-    if calls::call(name, t, tables::held(&words, 0)) {
-        return SAME;
+    if calls::call(rt, name, t, tables::held(&words, 0))? {
+        return Ok(SAME);
     }
-    OTHER
+    Ok(OTHER)
 }
 
 // A row, of which the asked words are set; nothing stands after its last bar.
-fn row(line: &[u8], name: u8, t: &mut [u32]) -> u32 {
+fn row<P: Print>(rt: &P, line: &[u8], name: u8, t: &mut [u32]) -> io::Result<u32> {
     let good = tables::set(line, 3, t, tables::ANSWER, tables::RULES)
         & (text::piece(line, 4, b'|').len() == 0);
     if !good {
-        return UNREAD;
+        return Ok(UNREAD);
     }
-    compare(name, t, text::piece(line, 2, b'|'))
+    compare(rt, name, t, text::piece(line, 2, b'|'))
 }
 
 // Does what a line says, and tells what that has come to.
-fn take(line: &[u8], t: &mut [u32]) -> u32 {
+fn take<P: Print>(rt: &P, line: &[u8], t: &mut [u32]) -> io::Result<u32> {
     let name = text::first(line);
     if name == text::REMARK {
-        return SAID;
+        return Ok(SAID);
     }
     let good = (text::pieces(line, b'|') == fields(name))
         & tables::set(line, 1, t, tables::start(name), tables::end(name));
     if !good {
-        return UNREAD;
+        return Ok(UNREAD);
     }
     if fields(name) == 2 {
-        return SAID;
+        return Ok(SAID);
     }
-    row(line, name, t)
+    row(rt, line, name, t)
 }
 
-fn wrong(v: u32) {
+fn wrong<P: Print>(rt: &P, v: u32) -> io::Result<()> {
     if v == UNREAD {
-        text::say(b" | cannot read this line");
+        text::say(rt, b" | cannot read this line")?;
     }
-    text::say(b" | NOT as on the sheet\n");
+    text::say(rt, b" | NOT as on the sheet\n")
 }
 
-fn verdict(v: u32) {
+fn verdict<P: Print>(rt: &P, v: u32) -> io::Result<()> {
     match v {
-        SAID => text::say(b"\n"),
-        SAME => text::say(b" | as on the sheet\n"),
-        _ => wrong(v),
+        SAID => text::say(rt, b"\n"),
+        SAME => text::say(rt, b" | as on the sheet\n"),
+        _ => wrong(rt, v),
     }
 }
 
-fn total(rows: u32, wrong: u32) {
-    io::print_decimal(1, rows as u64);
-    text::say(b" rows,");
-    text::say_word(wrong);
-    text::say(b" NOT as on the sheet\n");
+fn total<P: Print>(rt: &P, rows: u32, wrong: u32) -> io::Result<()> {
+    rt.print(rows)?;
+    text::say(rt, b" rows,")?;
+    text::say_word(rt, wrong)?;
+    text::say(rt, b" NOT as on the sheet\n")
 }
 
 // Line after line, and the counts. A text has fewer lines than a word can count.
-fn run(text: &[u8], t: &mut [u32]) {
+fn run<P: Print>(rt: &P, text: &[u8], t: &mut [u32]) -> io::Result<()> {
     let lines = text::pieces(text, b'\n');
-    let mut rows = 0;
-    let mut wrong = 0;
+    let mut rows: u32 = 0;
+    let mut wrong: u32 = 0;
     let mut i = 0;
     while i < lines {
         let line = text::piece(text, i, b'\n');
-        text::say(line);
-        let v = take(line, t);
-        verdict(v);
-        rows = std::num::wrapping_add_u32(rows, v & 1);
-        wrong = std::num::wrapping_add_u32(wrong, (v / 2) & 1);
+        text::say(rt, line)?;
+        let v = take(rt, line, t)?;
+        verdict(rt, v)?;
+        rows = rows.wrapping_add(v & 1);
+        wrong = wrong.wrapping_add((v / 2) & 1);
         i += 1;
     }
-    total(rows, wrong);
+    total(rt, rows, wrong)
 }
 
-fn main() {
-    let mut text = io::large_buffer();
+fn main(rt: HostRuntime) -> io::Result<()> {
+    let mut text = [0u8; 65536];
     let mut t = [0u32; tables::END];
-    let n = io::read_full(0, &mut text);
-    run(&text[..n], &mut t);
+    let n = text::read_full(&mut rt.stdin(), &mut text)?;
+    run(&rt, &text[..n], &mut t)?;
     if n == 65536 {
-        text::say(b"the sheet is too long, its end is NOT read\n");
+        text::say(&rt, b"the sheet is too long, its end is NOT read\n")?;
     }
+    Ok(())
 }

@@ -1,5 +1,6 @@
 // What is lent, what came back, and the comparison with the sheet.
 use crate::tables;
+use std::io;
 
 // So much of a slice as is to be lent; nothing where that is too much. What stands in it must not matter: the largest word, and one that
 // is a rule, a node and a typecode too.
@@ -32,23 +33,24 @@ fn holds(s: &[u32], words: &[u32]) -> bool {
 }
 
 // The same, and it is said if not.
-pub fn left(s: &[u32], words: &[u32]) -> bool {
+pub fn left<P: Print>(rt: &P, s: &[u32], words: &[u32]) -> io::Result<bool> {
     if holds(s, words) {
-        return true;
+        return Ok(true);
     }
-    text::say(b" | other words in a slice");
-    false
+    text::say(rt, b" | other words in a slice")?;
+    Ok(false)
 }
 
 // The numbers that came back, and whether they are the sheet's, which leaves out zeros at the end.
-pub fn told(t: &[u32], a: u32, b: u32, c: u32, d: u32) -> bool {
-    text::say_word(a);
-    text::say_word(b);
-    text::say_word(c);
-    text::say_word(d);
+pub fn told<P: Print>(rt: &P, t: &[u32], a: u32, b: u32, c: u32, d: u32) -> io::Result<bool> {
+    text::say_word(rt, a)?;
+    text::say_word(rt, b)?;
+    text::say_word(rt, c)?;
+    text::say_word(rt, d)?;
     let want = tables::held(t, tables::ANSWER);
-    (tables::word_at(want, 0) == a)
+    let same = (tables::word_at(want, 0) == a)
         & (tables::word_at(want, 1) == b)
         & (tables::word_at(want, 2) == c)
-        & (tables::word_at(want, 3) == d)
+        & (tables::word_at(want, 3) == d);
+    Ok(same)
 }

@@ -1,20 +1,38 @@
 // The text that a program reads and writes: its lines, the fields of a line, and the words of a field.
 #![tactic(auto)]
 
-ghost use Rattle.std.specs.Prelude.{◌≤◌, length};
+ghost use Rattle.std.specs.Prelude.{◌≤◌, length, IfOk};
+
+use std::io;
+use std::io::Read;
 
 // The most words of a program's slice: 64 KiB.
 pub const MOST: usize = 16384;
 
-// ---- what is written
+// ---- what is read and written
 
-pub fn say(s: &[u8]) {
-    io::write_all(1, s);
+// Reads until the slice is full or the input ends; how many bytes stand at its front then.
+pub fn read_full<R: Read>(from: &mut R, to: &mut [u8]) -> io::Result<usize>
+    ensures { IfOk result (λ n. n ≤ length to.new) }
+{
+    let mut done = 0;
+    while done < to.len() {
+        let n = from.read(&mut to[done..])?;
+        if n == 0 {
+            break;
+        }
+        done += n;
+    }
+    Ok(done)
 }
 
-pub fn say_word(x: u32) {
-    say(b" ");
-    io::print_decimal(1, x as u64);
+pub fn say<P: Print>(rt: &P, s: &[u8]) -> io::Result<()> {
+    rt.write_all(s)
+}
+
+pub fn say_word<P: Print>(rt: &P, x: u32) -> io::Result<()> {
+    say(rt, b" ")?;
+    rt.print(x)
 }
 
 // ---- pieces: a line end parts lines, a bar parts fields, a blank the items of a field, a comma the words of an item
@@ -157,7 +175,7 @@ pub fn read(text: &[u8], out: &mut [u32]) -> bool {
             return false;
         }
         out[i] = x as u32;
-        n = std::num::wrapping_add_u32(n, 1);
+        n = n.wrapping_add(1);
         i += 1;
     }
     false
