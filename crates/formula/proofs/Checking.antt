@@ -12,7 +12,7 @@ use lib.Seq.{take-suc, take-suc-set, take-length}
 use lib.Dec.{eqb}
 use borrow.Author.Tests.{eq-eqb, ne_eqb}
 use Rattle.words.specs.Limits.{most_rules}
-use Rattle.rules.specs.Rules.{Item, slot, rule_of, the_rules, good_rules}
+use Rattle.rules.specs.Rules.{Item, rule_of, the_rules, good_rules}
 use Rattle.rules.specs.Code.{a_rule, Starts, Missing}
 use Rattle.rules.specs.laws.Words.{to_item, body-count, words-most}
 use Rattle.rules.specs.laws.Every.{All, all_append}

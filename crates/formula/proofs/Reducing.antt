@@ -11,8 +11,6 @@ use Rattle.words.specs.Outcome.{Res, ok, bind}
 use Rattle.words.specs.Numbers.{Why}
 use Rattle.rules.specs.Rules.{Rule, rule_of, the_rules, slots}
 use Rattle.rules.specs.Code.{Starts, Missing}
-use Rattle.rows.specs.declared.Reduce as coded
-use Rattle.rows.specs.declared.Edge as edge
 use Rattle.formula.specs.Reducing.{reduce}
 use Rattle.formula.specs.Code.{trees_of, Inside, Gives}
 use Rattle.formula.specs.declared.Trees as held

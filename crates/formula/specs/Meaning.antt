@@ -1,6 +1,6 @@
 -- What a formula's postfix list means, from the Metamath language and no algorithm.
 use Rattle.std.specs.Prelude.{◌≡◌, List, [], ◌∷◌, ◌++◌, ℕ}
-use Rattle.std.proofs.Math.Option.{Option, some}
+use Rattle.std.proofs.Math.Option.{some}
 use Rattle.rules.specs.Rules.{Item, con, slot, Rule, rule_at}
 
 -- `Spells R b ts l`: the items b, each slot filled by a well typed tree, spell the tokens ts, and l is the postfix list of those trees,

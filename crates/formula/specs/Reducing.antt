@@ -1,9 +1,9 @@
 -- Reducing: the trees of a walk, and what a rule does to them.
-use Rattle.std.specs.Prelude.{Bool, true, false, List, [], ◌∷◌, ◌++◌, ℕ, ◌+◌, ltb, leb, length, take, drop}
+use Rattle.std.specs.Prelude.{List, [], ◌∷◌, ◌++◌, ℕ, ◌+◌, ltb, leb, length, take, drop}
 use Rattle.std.proofs.Math.Option.{Option, some, none}
 use Rattle.words.specs.Outcome.{Res, ok, no, bind, when}
 use Rattle.words.specs.Numbers.{Why, misfit, no_entry}
-use Rattle.rules.specs.Rules.{Item, Rule, rule_at, slots}
+use Rattle.rules.specs.Rules.{Rule, rule_at, slots}
 use Rattle.rows.specs.Rows.{Reduce}
 
 -- the trees, the top one first, each as its own postfix list

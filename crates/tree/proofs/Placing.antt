@@ -11,7 +11,7 @@ use lib.Dec.{ltb, eqb}
 use lib.ListN.{length, drop, get_or, get_elem?, length-append, drop_of_length-le}
 use lib.Seq.{drop-cons}
 use Rattle.words.specs.Outcome.{ok, bind, when}
-use Rattle.words.specs.Numbers.{Fault, no_node, no_edge}
+use Rattle.words.specs.Numbers.{no_node, no_edge}
 use Rattle.words.specs.Limits.{most_rules}
 use Rattle.words.specs.declared.NodeNo.{NodeNo}
 use Rattle.words.specs.declared.SymbolNo.{SymbolNo}
@@ -20,7 +20,7 @@ use Rattle.rules.specs.Code.{some_rules, source_of}
 use Rattle.rules.specs.declared.Conversion.{Conversion}
 use Rattle.rules.specs.declared.Conversion.TheVariants.{From, No}
 use Rattle.rules.specs.laws.Words.{from-item, rules-most, Ahead, Here, ahead-start, ahead-end, ahead-here}
-use Rattle.rows.specs.Rows.{Edge, edge_of, insert_edge, find}
+use Rattle.rows.specs.Rows.{edge_of, insert_edge, find}
 use Rattle.rows.specs.Code.{Holds, row_at}
 use Rattle.rows.specs.declared.Edge as held
 use Rattle.tree.specs.Grow.{Grown, Room, kind, sym, edge_for, add_edge, add_node, place_last, place_inner, place, place_rule, place_rules}

@@ -1,5 +1,5 @@
 -- The check says what `Tree` says, and a list has at most one typecode and one spelling.
-use Rattle.std.specs.Prelude.{◌≡◌, Bool, ◌&&◌, ◌↔◌, ℕ}
+use Rattle.std.specs.Prelude.{◌≡◌, Bool, ◌↔◌, ℕ}
 use Rattle.std.proofs.Math.Path.{refl, sym}
 use Rattle.std.proofs.Common.{ap}
 use Rattle.std.proofs.Math.Bool.{true, false}

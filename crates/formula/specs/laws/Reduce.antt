@@ -1,7 +1,7 @@
 -- A reduce, by what it meets: no such rule, too few trees, a full list, or room.
-use Rattle.std.specs.Prelude.{◌≡◌, refl, List, ◌∷◌, ℕ, ◌+◌, ◌≤◌, ◌<◌, leb, ltb, length}
+use Rattle.std.specs.Prelude.{◌≡◌, List, ◌∷◌, ℕ, ◌+◌, ◌≤◌, ◌<◌, length}
 use Rattle.std.proofs.Math.Option.{some, none}
-use Rattle.words.specs.Outcome.{Res, ok, no, bind, when}
+use Rattle.words.specs.Outcome.{ok, no, bind, when}
 use Rattle.words.specs.Numbers.{Why, misfit, no_entry}
 use borrow.Author.Tests.{lt-leb, le-leb, lt-ltb, le-ltb}
 use Rattle.rules.specs.Rules.{Rule, rule_at, slots}

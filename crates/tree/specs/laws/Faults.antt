@@ -1,12 +1,12 @@
 -- Which numbers a step can be refused with: P holds of the fault, if there is one.
-use Rattle.std.specs.Prelude.{◌≡◌, refl, Bool, true, false, length}
+use Rattle.std.specs.Prelude.{◌≡◌, Bool, true, false, length}
 use mathlib.Core.List.{List, [], ◌∷◌}
 use Rattle.std.proofs.Math.Option.{Option, some, none}
 use Prim.Native.Nat.{ℕ, zero, suc}
 use Rattle.std.proofs.Common.{arith}
 use Rattle.words.specs.Outcome.{Res, ok, no, bind, when}
 use Rattle.words.specs.Numbers.{Fault, collides, no_node, no_edge, sixth_reduce, bad_copy}
-use Rattle.rules.specs.Rules.{Item, Rule, source}
+use Rattle.rules.specs.Rules.{Item, Rule}
 use Rattle.rows.specs.Rows.{Reduce, Edge, leaving}
 use Rattle.tree.specs.Grow.{Grown, Room, kind, sym, add_edge, add_node, place_last, place_inner, place, place_rule, place_rules, add_converted, copy_row, copy_branches, convert_to, convert_at, convert_nodes, convert, convert_all, plant}
 
