@@ -21,7 +21,7 @@ use Rattle.rows.specs.laws.Put.{written-length}
 use Rattle.rows.specs.declared.Edge as held
 use Rattle.rows.specs.declared.Found.{Found}
 use Rattle.rows.specs.declared.Found.TheVariants.{Row, Nothing}
-use Rattle.tree.specs.Grow.{Grown, Room}
+use Rattle.tree.specs.Grow.{Grown}
 use Rattle.tree.specs.Code.{room_of, fault_of, grown_of, Stands, Meets}
 use Rattle.tree.specs.declared.Counts.{Counts}
 use Rattle.tree.specs.declared.Room as lent

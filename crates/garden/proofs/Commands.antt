@@ -7,14 +7,14 @@ use Prim.Native.Nat.{ℕ, zero, suc, ◌+◌, ◌*◌, ◌-◌, ◌≤◌, ◌<�
 use native.Mathlib.Omega.{arith}
 use lib.Dec.{eqb, ltb}
 use lib.ListN.{length, get_or, take, drop, length-drop, drop_of_length-le}
-use lib.Seq.{length-take-le, drop-cons, drop-drop}
+use lib.Seq.{length-take-le, drop-drop}
 use borrow.Author.Tests.{lt-ltb, le-ltb, ne_eqb, ltb-false, not-true}
 use Rattle.words.specs.laws.Tests.{and_l, and_r, by-test}
 use Rattle.words.specs.Outcome.{Res, ok, no, bind, pick}
 use Rattle.words.specs.Numbers.{Fault, bad_copy}
 use Rattle.rules.specs.Rules.{Rule}
 use Rattle.tree.specs.Grow.{Grown, plant, convert_all}
-use Rattle.tree.specs.Code.{room_of, fault_of, grown_of, grew_of, Stands, Rows, Meets}
+use Rattle.tree.specs.Code.{room_of, grown_of, grew_of, Stands, Rows, Meets}
 use Rattle.tree.specs.declared.Counts.{Counts}
 use Rattle.tree.specs.declared.Room as lent
 use Rattle.tree.specs.declared.Grew.{Grew}

@@ -9,11 +9,11 @@ use lib.Dec.{ltb}
 use lib.ListN.{length, get_or, take, drop, set, drop_of_length-le}
 use lib.Seq.{length-take-le, drop-drop, set_at, get_or-set_same}
 use borrow.Author.Tests.{le-ltb, eq-eqb}
-use Rattle.words.specs.Limits.{row_width, most_reduces}
-use Rattle.words.specs.Outcome.{Res, ok, bind, pick}
+use Rattle.words.specs.Limits.{row_width}
+use Rattle.words.specs.Outcome.{Res, bind, pick}
 use Rattle.words.specs.Numbers.{Fault, far_offset, sixth_reduce}
 use Rattle.words.specs.declared.NodeNo.{NodeNo}
-use Rattle.rows.specs.Rows.{Reduce, Edge, edge_of, rows_from, edges_from, row_words, rising, find, leaving}
+use Rattle.rows.specs.Rows.{Reduce, Edge, edge_of, rows_from, edges_from, row_words, find, leaving}
 use Rattle.rows.specs.Code.{edge_is, Holds, row_at, put_in, place_of}
 use Rattle.rows.specs.declared.Edge as held
 use Rattle.rows.specs.declared.Added.{Added}
@@ -21,7 +21,7 @@ use Rattle.rows.specs.laws.Lookup.{rows_left_lem, row_at-length, rows_step, rows
 use Rattle.rows.specs.laws.Order.{place-within}
 use Rattle.rows.specs.laws.Put.{edges-cut, row_number, set-row, put-in-length, put-in-rows}
 use Rattle.rows.proofs.Laws.{word_at}
-use Rattle.tree.specs.Grow.{Grown, Room, add_edge}
+use Rattle.tree.specs.Grow.{Grown, add_edge}
 use Rattle.tree.specs.Code.{room_of, edges_in, grown_of, grew_of, Rising, FoundAt, Rowed, StillRowed, Rows, Puts}
 use Rattle.tree.specs.declared.Counts.{Counts}
 use Rattle.tree.specs.declared.Room as lent

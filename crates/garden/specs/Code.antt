@@ -1,5 +1,5 @@
 -- What the code's structs and the lent slices stand for.
-use Rattle.std.specs.Prelude.{ℕ, zero, suc, ◌+◌, ◌*◌, ◌-◌, ◌/◌, ◌≤◌, ◌<◌, ◌≡◌, ◌≢◌, Bool, true, false, ◌&&◌, List, [], ◌∷◌, ◌++◌, map, eqb, ltb, length, get_or, take, drop}
+use Rattle.std.specs.Prelude.{ℕ, zero, suc, ◌+◌, ◌*◌, ◌-◌, ◌/◌, ◌≤◌, ◌<◌, ◌≡◌, ◌≢◌, Bool, true, false, ◌&&◌, List, [], ◌∷◌, map, eqb, ltb, length, get_or, take, drop}
 use Rattle.std.proofs.Math.Option.{Option, some, none}
 use Rattle.words.specs.Limits.{most_edges, most_taken, row_width, most_reduces}
 use Rattle.words.specs.Outcome.{Res, ok, no, bind, when, pick}

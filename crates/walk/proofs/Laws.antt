@@ -10,10 +10,8 @@ use lib.Dec.{eqb}
 use lib.ListN.{length, get_or, set, take, drop, drop_of_length-le}
 use borrow.Author.Tests.{eq-eqb, ne_eqb}
 use lib.Seq.{get_or-set_same, get_or-set_other}
-use Rattle.words.specs.Outcome.{no}
 use Rattle.rules.specs.Rules.{Rule, the_rules, rule_of, size_of, source}
 use Rattle.words.specs.laws.Parts.{part-all}
-use Rattle.words.specs.laws.Tests.{passed}
 use Rattle.rules.specs.laws.Words.{Ahead, ahead-start, ahead-here, ahead-end}
 use Rattle.words.specs.declared.SymbolNo.{SymbolNo}
 use Rattle.words.specs.declared.NodeNo.{NodeNo}

@@ -37,7 +37,7 @@ use Rattle.formula.specs.laws.Held.{trees-count}
 use Rattle.formula.specs.declared.Trees as held
 use Rattle.formula.specs.declared.Reduced.{Reduced}
 use Rattle.formula.specs.declared.Reduced.TheVariants.{Done, TooFew, Full}
-use Rattle.walk.specs.Walk.{Tables, tables_of, Room, State, wanted, Choice, conversion, follow, step_by, root_step, finish, converted, convert_by, unwanted, pop_by, goal_by, complete, leaf, token, branch, pass, Turn, after, start, walk}
+use Rattle.walk.specs.Walk.{Tables, tables_of, Room, State, Choice, conversion, follow, step_by, root_step, finish, converted, convert_by, unwanted, pop_by, goal_by, complete, leaf, token, branch}
 use Rattle.walk.specs.Code.{tables, room_of, stack, state_of, Chooses, Placed, Fit, Follows, Roots, Opens, Branches, Lies, Finishes, Bare, Framed, Stood, Ready, stand_at, under, at_node, Unwanted, Completes, Leaves, choice_of, Steps, with_trees, Converted, Closes}
 use Rattle.walk.specs.declared.Wish.{Wish}
 use Rattle.walk.specs.declared.Wish.TheVariants.{Goal, Frame}

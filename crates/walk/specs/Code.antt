@@ -1,15 +1,14 @@
 -- What the code's own types and buffers stand for, in the terms of the definitions.
-use Rattle.std.specs.Prelude.{ℕ, zero, suc, ◌-◌, ◌≤◌, ◌≡◌, Bool, true, ◌&&◌, List, [], ◌∷◌, leb}
+use Rattle.std.specs.Prelude.{ℕ, zero, suc, ◌-◌, ◌≤◌, ◌≡◌, Bool, ◌&&◌, List, [], ◌∷◌}
 use Rattle.std.proofs.Math.Option.{Option, none, some}
 use lib.ListN.{length, get_or, take, drop}
 use Rattle.words.specs.Limits.{most_reduces, most_tokens}
-use Rattle.words.specs.Outcome.{Res, ok, no, bind, pick}
+use Rattle.words.specs.Outcome.{Res, ok, no}
 use Rattle.words.specs.Numbers as reasons
 use Rattle.rules.specs.Rules.{Rule, the_rules, rule_at, source}
 use Rattle.rules.specs.Code.{Ruled}
 use Rattle.rows.specs.Rows.{Edge, edges_of, find}
 use Rattle.rows.specs.Code.{Tabled}
-use Rattle.formula.specs.Reducing.{reduce}
 use Rattle.formula.specs.declared.Trees as held
 use Rattle.formula.specs.Code as formula
 use Rattle.walk.specs.Walk.{Tables, tables_of, Room, State, Turn, on, end, Choice, comes_from, wanted, conversion, follow, step_by, root_step, finish, converted, convert_by, unwanted, complete, leaf, token, branch, pass, Walked}

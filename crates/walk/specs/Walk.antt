@@ -1,9 +1,9 @@
 -- The walk. A pass is one turn of the Rust's `parse_formula` loop. Frames are node numbers.
 -- Each choice is a function by clauses whose last argument is what was looked up.
-use Rattle.std.specs.Prelude.{Bool, true, false, ◌&&◌, ◌||◌, not, List, [], ◌∷◌, ◌++◌, ℕ, zero, suc, ◌+◌, pred, eqb, ltb, length, get_or}
+use Rattle.std.specs.Prelude.{Bool, true, false, ◌&&◌, ◌||◌, not, List, [], ◌∷◌, ℕ, zero, suc, pred, eqb, ltb, length, get_or}
 use Rattle.std.proofs.Math.Option.{Option, some, none}
 use Rattle.words.specs.Outcome.{Res, ok, no, bind, when}
-use Rattle.words.specs.Numbers.{accepted, too_few_tokens, no_pass, Why, unparseable, too_short, misfit, no_frame, no_entry, number, place, numbering}
+use Rattle.words.specs.Numbers.{accepted, too_few_tokens, no_pass, Why, unparseable, too_short, misfit, no_frame, number, place, numbering}
 use Rattle.rules.specs.Rules.{Rule, rule_at, source}
 use Rattle.rows.specs.Rows.{Edge, keyed, find, bare}
 use Rattle.formula.specs.Check.{check, checking}

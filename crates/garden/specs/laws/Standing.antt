@@ -1,7 +1,7 @@
 -- The rows that stood when a copy began: they stay where younger rows are put in; and those of one node, one after another.
 use Rattle.std.specs.Prelude.{◌≡◌, Bool, ◌&&◌, get_or, take, drop}
 use Rattle.std.proofs.Math.Path.{refl}
-use Rattle.std.proofs.Common.{◌∙◌, not-suc-le-zero, le_of_suc-le-suc}
+use Rattle.std.proofs.Common.{not-suc-le-zero, le_of_suc-le-suc}
 use Rattle.std.proofs.Math.Bool.{true, false}
 use mathlib.Core.List.{List, [], ◌∷◌, ◌++◌}
 use Prim.Native.Nat.{ℕ, zero, suc, ◌≤◌, ◌<◌}
@@ -11,7 +11,7 @@ use Rattle.std.proofs.Math.ListN.{length}
 use borrow.Author.Tests.{lt-ltb, ne_eqb, ltb-true, ltb-false}
 use Rattle.words.specs.Outcome.{pick}
 use Rattle.rules.specs.laws.Every.{All, all_map}
-use Rattle.rows.specs.Rows.{Edge, edge_of, edges_from, rising, leaving}
+use Rattle.rows.specs.Rows.{edge_of, edges_from, rising, leaving}
 use Rattle.rows.specs.Code.{place_of}
 use Rattle.rows.specs.laws.Order.{from-below, from-above, from-rises, rising-rest, place-first}
 use Rattle.tree.specs.Code.{Aged}

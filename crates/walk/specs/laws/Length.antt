@@ -1,6 +1,6 @@
 -- A walk of n tokens after the typecode never wants more than 18n - 7 list entries: a potential that counts those made and those that may yet
 -- come never grows.
-use Rattle.std.specs.Prelude.{◌≡◌, refl, List, [], ◌∷◌, ◌≢◌, ℕ, zero, suc, ◌+◌, ◌*◌, ◌≤◌}
+use Rattle.std.specs.Prelude.{◌≡◌, refl, List, ◌∷◌, ◌≢◌, ℕ, zero, suc, ◌+◌, ◌*◌, ◌≤◌}
 use Rattle.std.proofs.Math.Path.{ap}
 use native.Mathlib.Omega.{arith}
 use Rattle.std.proofs.Math.ListN.{length}
