@@ -21,7 +21,6 @@ use Rattle.words.specs.laws.Faults.{met, unmet, none_left, one_more, fault-is}
 use Rattle.rules.specs.Rules.{the_rules, rules_good}
 use Rattle.rows.specs.Rows.{tables_good}
 use Rattle.desk.specs.Entry.{ground_demands}
-use Rattle.desk.specs.Entry as single
 use Rattle.desk.specs.Batch.{Asked, Lent, Batch, answer_width, answer_words, list_words, walks_from, whole, cut_at, index_size, batch_demands, batched, batch_after, batch_gives}
 use Rattle.desk.specs.Code.{Packed, TriedMany, batch_is}
 use Rattle.desk.specs.declared.Batch as declared

@@ -1,5 +1,5 @@
 -- The entry points: for each, everything that it gives back, as a function of the words handed in and of the lengths of the slices lent.
-use Rattle.std.specs.Prelude.{Bool, true, false, ◌&&◌, not, List, [], ◌∷◌, ◌++◌, ℕ, zero, suc, ◌+◌, ◌*◌, ◌/◌, eqb, leb, ltb, length, get_or, drop}
+use Rattle.std.specs.Prelude.{not, List, [], ◌∷◌, ◌++◌, ℕ, zero, suc, ◌/◌, ltb, length, get_or, drop}
 use Rattle.words.specs.Limits.{most_rules, most_nodes, most_edges, row_width, most_tokens, most_taken}
 use Rattle.words.specs.Lent.{zeros, padded}
 use Rattle.words.specs.Numbers.{accepted, too_few_tokens, bad_tables, too_many_tokens, bad_rules, misfit, no_entry, number, Fault, fault_number, numbering}

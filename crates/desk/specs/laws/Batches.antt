@@ -180,7 +180,7 @@ batch-refused-zeros q a s h = nothing-after q a s (first_fault (batch_demands q 
 pub walks-length : (q : Asked) (a : ℕ) (s : single.Lent) (used : ℕ) (ts : List (List ℕ)) → length (walks_from q a s used ts) ≡ length ts
 unfolding walks_from
 walks-length q a s used [] = refl
-walks-length q a s used (t ∷ ts) = ap suc (walks-length q a s _ ts)
+walks-length q a s used (t ∷ ts) = ap suc (walks-length q a s (used + length (walk_one q a s used t).list) ts)
 
 answers-length : (ws : List Walked) → length (answer_words ws) ≡ answer_width * length ws
 unfolding answer_words

@@ -1,12 +1,11 @@
 -- Rows for what the starred ones leave open, and what a build gives back, word for word.
-use Rattle.std.specs.Prelude.{◌≡◌, refl, Bool, true, false, ◌&&◌, List, [], ◌∷◌, ◌++◌, ℕ, zero, suc, ◌+◌, ◌*◌, eqb, length, take, drop, replicate}
+use Rattle.std.specs.Prelude.{◌≡◌, refl, Bool, true, ◌&&◌, List, [], ◌∷◌, ℕ, zero, suc, ◌+◌, eqb, replicate}
 use Rattle.words.specs.Lent.{zeros, padded}
-use Rattle.words.specs.Outcome.{same_words}
 use Rattle.rules.specs.Rules.{Stretch}
 use Rattle.rules.specs.Sheet.{words-S, words-S10, words-T, words-U, words-V, words-W}
-use Rattle.rows.specs.Rows.{Edge, edge_of, edges_of, edge_words, leaving}
+use Rattle.rows.specs.Rows.{Edge, edges_of, edge_words, leaving}
 use Rattle.rows.specs.Sheet.{edge, five, nodes-S, edges-S, tables}
-use Rattle.desk.specs.Entry.{body_gives, Built, build_gives, Asked, Lent, Parsed, parse_gives, verify_gives}
+use Rattle.desk.specs.Entry.{body_gives, Built, build_gives, Asked, Lent, parse_gives, verify_gives}
 use Rattle.desk.specs.Batch.{Batch, batch_gives, batching}
 use Rattle.desk.specs.laws.Starred.{Row, parses, checks, row, ample, every, asks, meets, opening}
 

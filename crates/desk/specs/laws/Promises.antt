@@ -1,5 +1,5 @@
 -- The promises, about what the entry points give back, for any words at all.
-use Rattle.std.specs.Prelude.{◌≡◌, Bool, List, [], ◌∷◌, ◌++◌, ◌≢◌, ◌↔◌, eqb, leb, ltb, get_or, take, drop}
+use Rattle.std.specs.Prelude.{◌≡◌, Bool, List, [], ◌∷◌, ◌≢◌, ◌↔◌, eqb, get_or, take, drop}
 use Rattle.std.proofs.Math.Path.{refl, ap}
 use Rattle.std.proofs.Common.{sym, ◌∙◌}
 use Rattle.std.proofs.Math.Bool.{true, false, not}
@@ -10,14 +10,14 @@ use Rattle.std.proofs.Math.Nat.{sub-zero}
 use native.Mathlib.Omega.{arith}
 use Rattle.std.proofs.Math.ListN.{length, length-replicate}
 use Rattle.std.proofs.Math.Seq.{take_at}
-use borrow.Author.Tests.{leb-true, leb-false, ltb-false, not-true, le-ltb}
+use borrow.Author.Tests.{ltb-false, not-true, le-ltb}
 use Rattle.words.specs.Limits.{most_tokens, most_nodes, most_edges, row_width, most_taken}
 use Rattle.words.specs.Lent.{zeros, padded}
 use Rattle.words.specs.Outcome.{Res, ok, no, pick, lesser, Demand, demand, first_fault}
 use Rattle.words.specs.Numbers.{too_few_tokens, no_pass, bad_tables, too_many_tokens, bad_rules, misfit, no_frame, no_entry, number, Fault, collides, no_node, no_edge, sixth_reduce, far_offset, bad_copy, many_rows, no_clone, fault_number}
 use Rattle.words.specs.laws.Tests.{lesser-le, lesser-is}
-use Rattle.words.specs.laws.Faults.{met, unmet, Clear, clear, Each, none_left, one_more, fault-is}
-use Rattle.rules.specs.Rules.{Rule, symbol, the_rules, rules_good, Stretch}
+use Rattle.words.specs.laws.Faults.{met, clear, none_left, one_more, fault-is}
+use Rattle.rules.specs.Rules.{Rule, symbol, the_rules, rules_good}
 use Rattle.rules.specs.laws.Proper.{Proper, rules-proper}
 use Rattle.rows.specs.Rows.{Edge, edges_of, edge_words, find, tables_good}
 use Rattle.rows.specs.laws.Fair.{RowOk, found, tables-fair}
@@ -44,7 +44,7 @@ use Rattle.walk.specs.laws.Frames.{walk-frames}
 use Rattle.walk.specs.laws.Length.{walk-list}
 use Rattle.walk.specs.laws.Within.{walk-within}
 use Rattle.walk.specs.laws.Sound.{walk-checked, walk-unlisted, walk-numbers, walk-placeless, walk-place}
-use Rattle.desk.specs.Entry.{body_gives, Built, not_built, built_by, build_after, build_room, garden_bounds, build_gives, Parsed, Lent, walk_room, parsed, the_tables, Asked, parse_demands, walk_after, walk_of, parse_gives, verify_demands, Verified, verify_gives, Means}
+use Rattle.desk.specs.Entry.{Built, not_built, built_by, build_after, build_room, garden_bounds, build_gives, Parsed, Lent, walk_room, parsed, the_tables, Asked, parse_demands, walk_after, walk_of, parse_gives, verify_gives, Means}
 
 -- ---- determined: what an entry point gives back is a value of its definition, so two results that meet it are one, every lent word included
 
@@ -502,8 +502,11 @@ faulted nodes edges frames y (no x) = (λ e. ap no (sym (fault-at x) ∙ ap faul
 
 -- good rules have bodies
 bodied : (R : List Rule) → Proper R → (r : Rule) → Among r R → r.body ≢ []
-bodied R a r (first S) e = omega (arith, a.0.some_item, ap length e)
-bodied R a r (later p S i) e = bodied S a.1 r i e
+bodied R a r = by r R a
+  where
+    by : (r : Rule) (R : List Rule) → Proper R → Among r R → r.body ≢ []
+    by r R a (first S) e = omega (arith, a.0.some_item, ap length e)
+    by r R a (later p S i) e = by r S a.1 i e
 
 pub collide-exactly : (provable logic : ℕ) (rules commands : List ℕ) (nodes edges frames : ℕ) → rules_good provable logic rules ≡ true → 1 ≤ nodes
     → ((build_gives provable logic rules commands nodes edges frames).number ≡ 11) ↔ Collision (build_room nodes edges) (the_rules rules)

@@ -1,6 +1,6 @@
 -- The starred sentences of the training sheet: one table, one claim. Each row is computed from the rules' words: built, its tables checked,
 -- walked, and everything that comes back compared.
-use Rattle.std.specs.Prelude.{◌≡◌, refl, Bool, true, false, ◌&&◌, List, [], ◌∷◌, ◌++◌, ℕ, zero, suc, ◌+◌, ◌*◌, eqb, length, take}
+use Rattle.std.specs.Prelude.{◌≡◌, refl, Bool, true, ◌&&◌, List, [], ◌∷◌, ℕ, ◌+◌, ◌*◌, eqb, length, take}
 use Rattle.words.specs.Outcome.{same_words}
 use Rattle.words.specs.Lent.{zeros, padded}
 use Rattle.words.specs.Limits.{row_width}

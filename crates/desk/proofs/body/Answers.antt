@@ -1,0 +1,7 @@
+use borrow.Author.Rules.{rules}
+use Rattle.desk.specs.Entry.{body_gives}
+use Rattle.desk.proofs.body.Goals as goal
+
+pub returns : goal.returns
+unfolding body_gives
+returns c = search rules
