@@ -62,5 +62,5 @@ beside() { # FOLDER PACKAGE..
 
 # Where libdesk_c.a is, for a caller whose folder is still the current one; $1 is the project's folder.
 library_folder() {
-    CDPATH='' cd -- "${JIEHKAVON_LIB_DIR:-$1/target/staticlib}" && pwd
+    CDPATH='' cd -- "${JIEHKAVON_LIB_DIR:-$1/crates/desk_c/out}" && pwd
 }

@@ -1,4 +1,4 @@
-// Says where the static library is: JIEHKAVON_LIB_DIR, or where `rt staticlib desk_c` writes it.
+// Says where the static library is: JIEHKAVON_LIB_DIR, or where `rt lib` in crates/desk_c writes it.
 use std::env;
 use std::path::PathBuf;
 
@@ -7,12 +7,12 @@ const LIBRARY: &str = "libdesk_c.a";
 fn main() {
     let dir = match env::var_os("JIEHKAVON_LIB_DIR") {
         Some(dir) => PathBuf::from(dir),
-        None => PathBuf::from(env::var_os("CARGO_MANIFEST_DIR").expect("cargo says where the crate is")).join("../target/staticlib"),
+        None => PathBuf::from(env::var_os("CARGO_MANIFEST_DIR").expect("cargo says where the crate is")).join("../crates/desk_c/out"),
     };
     let library = dir.join(LIBRARY);
     if !library.exists() {
         println!(
-            "cargo:warning={} is not there: run `rt staticlib desk_c`, or set JIEHKAVON_LIB_DIR",
+            "cargo:warning={} is not there: run `rt lib` in crates/desk_c, or set JIEHKAVON_LIB_DIR",
             library.display()
         );
     }
