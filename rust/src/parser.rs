@@ -11,7 +11,7 @@ use crate::words;
 /// Passes and room that are always enough for a statement.
 ///
 /// For n tokens after the typecode, and for any tables at all, no parse needs more than 4n passes, n - 1 frames and 18n list entries. These are
-/// theorems about the library: `four-n`, `frames-enough` and `list-enough` in `crates/desk/specs/laws/Promises.antt`. By `more_room` there, lending
+/// theorems about the library: `four-n`, `frames-enough` and `list-enough` in `crates/desk/proofs/Theorems/Promises.antt`. By `more_room` there, lending
 /// more would change no answer.
 #[derive(Clone, Copy, Debug, Default, PartialEq, Eq)]
 pub struct Room {

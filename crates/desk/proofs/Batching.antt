@@ -10,7 +10,7 @@ use lib.Seq.{take_all, sets-eq, take-append-add, take-append-le, length-take-le,
 use borrow.Rule.Slice.PartMut.{put_mid, same_len_mid, mid_len}
 use Rattle.words.specs.Outcome.{Res, ok, no}
 use Rattle.words.specs.Counted.{counted, lists_of, the_lists}
-use Rattle.words.specs.laws.Counted.{lists-whole}
+use Rattle.words.proofs.Theorems.Counted.{lists-whole}
 use Rattle.walk.specs.Walk.{Walked}
 use Rattle.desk.specs.Entry.{Lent, Asked, walk_room, walk_of}
 use Rattle.desk.specs.Batch.{answer_width, answer_words, list_words, whole, left, walk_one, walks_from}

@@ -3,7 +3,7 @@ use mathlib.Core.Path.{◌≡◌}
 use Rattle.rules.specs.Code.{stretch_of}
 use Rattle.package.specs.Code.{read_is, written_is}
 use Rattle.desk.specs.Code.{built_is, parsed_is, verified_is, batch_is}
-use Rattle.desk.specs.laws.Promises.{determined}
+use Rattle.desk.proofs.Theorems.Promises.{determined}
 use Rattle.desk.proofs.body.Reads as body
 use Rattle.desk.proofs.body_stretch.Reads as body-stretch
 use Rattle.desk.proofs.build.Reads as build

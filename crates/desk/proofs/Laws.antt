@@ -12,8 +12,8 @@ use Rattle.words.specs.Lent.{zeros, padded, cleared_from}
 use Rattle.words.specs.Outcome.{Res, lesser, Demand, demand, first_fault}
 use lib.Dec.{ltb}
 use borrow.Author.Tests.{lt-ltb, le-ltb}
-use Rattle.words.specs.laws.Faults.{met, unmet, clear, fault-stays}
-use Rattle.words.specs.laws.Parts.{part-all}
+use Rattle.words.proofs.Theorems.Faults.{met, unmet, clear, fault-stays}
+use Rattle.words.proofs.Theorems.Parts.{part-all}
 use Rattle.rules.specs.Rules.{the_rules, rules_good}
 use Rattle.rows.specs.Rows.{tables_good}
 use Rattle.formula.specs.Check.{check}
@@ -36,8 +36,8 @@ use Rattle.desk.specs.Entry.{Built, not_built, build_room, garden_bounds, built_
 use Rattle.desk.specs.Code.{built_is, Raised, parsed_is, Tried}
 use Rattle.desk.specs.declared.Answer.{Answer}
 use Rattle.desk.specs.declared.Made.{Made}
-use Rattle.desk.specs.laws.Promises.{Asks, past, none-fails}
-use Rattle.words.specs.laws.Tests.{lesser-le}
+use Rattle.desk.proofs.Theorems.Promises.{Asks, past, none-fails}
+use Rattle.words.proofs.Theorems.Tests.{lesser-le}
 
 module _ (provable logic : ℕ) (rules tokens list : List ℕ) (work : ℕ) where
   pub verified : (number : ℕ) (after : List ℕ) → number ≡ first_fault (verify_demands provable logic rules tokens list work) → after ≡ zeros work

@@ -1,3 +1,4 @@
+pub mod Theorems
 pub mod Laws
 pub mod Batching
 pub mod Determined

@@ -17,14 +17,14 @@ use Rattle.words.specs.Counted.{lists_of, lists_in, the_lists}
 use Rattle.words.specs.Code.{how_many}
 use Rattle.words.specs.declared.Lists.{Lists}
 use Rattle.words.specs.declared.Lists.TheVariants.{Whole, Cut}
-use Rattle.words.specs.laws.Faults.{met, unmet, none_left, one_more, fault-is}
+use Rattle.words.proofs.Theorems.Faults.{met, unmet, none_left, one_more, fault-is}
 use Rattle.rules.specs.Rules.{the_rules, rules_good}
 use Rattle.rows.specs.Rows.{tables_good}
 use Rattle.desk.specs.Entry.{ground_demands}
 use Rattle.desk.specs.Batch.{Asked, Lent, Batch, answer_width, answer_words, list_words, walks_from, whole, cut_at, index_size, batch_demands, batched, batch_after, batch_gives}
 use Rattle.desk.specs.Code.{Packed, TriedMany, batch_is}
 use Rattle.desk.specs.declared.Batch as declared
-use Rattle.desk.specs.laws.Batches.{walks-length}
+use Rattle.desk.proofs.Theorems.Batches.{walks-length}
 use Rattle.desk.proofs.Laws.{ground-passed}
 
 -- ---- counted words

@@ -1,4 +1,3 @@
 pub mod Entry
 pub mod Batch
 pub mod Code
-pub mod laws

@@ -3,7 +3,7 @@ use mathlib.Core.Path.{◌≡◌}
 use Rattle.rules.specs.Code.{stretch_of}
 use Rattle.package.specs.Code.{read_is, written_is}
 use Rattle.desk.specs.Code.{built_is, parsed_is, verified_is, batch_is}
-use Rattle.desk.specs.laws.Promises.{determined}
+use Rattle.desk.proofs.Theorems.Promises.{determined}
 use Rattle.desk_c.proofs.jiehkavon_body.Reads as body
 use Rattle.desk_c.proofs.jiehkavon_build.Reads as build
 use Rattle.desk_c.proofs.jiehkavon_package_read.Reads as read

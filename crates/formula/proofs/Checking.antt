@@ -14,14 +14,15 @@ use borrow.Author.Tests.{eq-eqb, ne_eqb}
 use Rattle.words.specs.Limits.{most_rules}
 use Rattle.rules.specs.Rules.{Item, rule_of, the_rules, good_rules}
 use Rattle.rules.specs.Code.{a_rule, Starts, Missing}
-use Rattle.rules.specs.laws.Words.{to_item, body-count, words-most}
-use Rattle.rules.specs.laws.Every.{All, all_append}
+use Rattle.rules.proofs.Theorems.Words.{to_item, body-count, words-most}
+use Rattle.rules.proofs.Theorems.Every.{All, all_append}
 use Rattle.formula.specs.Check.{check}
 use Rattle.formula.specs.Code.{places, Whole, unread, Pending, Stacked, Turned, Fills, Meets, still_of, facing_of}
 use Rattle.formula.specs.declared.Seek.{Seek}
 use Rattle.formula.specs.declared.Turn.{Turn}
 use Rattle.formula.specs.declared.Turn.TheVariants.{On, Ended}
-use Rattle.formula.specs.laws.Turns.{start-facing, turn_end, turn-off, turn-item, con-met, con-short, slot-filled, slot-wrong, slot-no-rule, slot-short}
+use Rattle.formula.proofs.Theorems.Turns.{start-facing}
+use Rattle.formula.specs.Turns.{turn_end, turn-off, turn-item, con-met, con-short, slot-filled, slot-wrong, slot-no-rule, slot-short}
 
 -- ---- the items of a body
 

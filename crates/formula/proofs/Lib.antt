@@ -1,3 +1,4 @@
+pub mod Theorems
 pub mod Reducing
 pub mod Weaving
 pub mod Checking

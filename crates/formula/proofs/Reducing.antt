@@ -19,9 +19,9 @@ use Rattle.formula.specs.Tail.{total, Measured, joined, measure}
 use Rattle.formula.specs.TailCode.{Sized, Joins, Measures}
 use Rattle.formula.specs.declared.sizes.Fit.{Fit}
 use Rattle.formula.specs.declared.sizes.Fit.TheVariants as fit
-use Rattle.formula.specs.laws.Flat.{drop-take, total-append}
-use Rattle.formula.specs.laws.Held.{sizes-total, cut-flat, cut-sizes}
-use Rattle.formula.specs.laws.Tail.{measure-no-rule, measure-few, measure-full, measure-fits, joined-place, joined-total, put_in, cut, after, reduce-cut}
+use Rattle.formula.proofs.Theorems.Flat.{drop-take, total-append}
+use Rattle.formula.proofs.Theorems.Held.{sizes-total, cut-flat, cut-sizes}
+use Rattle.formula.proofs.Theorems.Tail.{measure-no-rule, measure-few, measure-full, measure-fits, joined-place, joined-total, put_in, cut, after, reduce-cut}
 
 -- ---- a sum, from word i on
 

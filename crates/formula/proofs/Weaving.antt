@@ -14,7 +14,7 @@ use Rattle.words.specs.Lent.{inserted, moved_up}
 use Rattle.words.specs.Limits.{most_reduces}
 use Rattle.words.specs.Outcome.{Res, ok, no, bind}
 use Rattle.words.specs.Numbers.{Why}
-use Rattle.words.specs.laws.Tests.{by-test}
+use Rattle.words.proofs.Theorems.Tests.{by-test}
 use Rattle.rules.specs.Rules.{Rule}
 use Rattle.rows.specs.Rows.{Reduce}
 use Rattle.rows.specs.Code.{reduce_is, edge_is}
@@ -29,7 +29,7 @@ use Rattle.formula.specs.declared.Reduced.{Reduced}
 use Rattle.formula.specs.declared.Reduced.TheVariants.{Done, TooFew, Full}
 use Rattle.formula.specs.declared.sizes.Fit.{Fit}
 use Rattle.formula.specs.declared.sizes.Fit.TheVariants as fit
-use Rattle.formula.specs.laws.Tail.{put_in, cut, rising_le, rising-drop, woven-from, length-woven, all-planned, Laid, all_laid}
+use Rattle.formula.proofs.Theorems.Tail.{put_in, cut, rising_le, rising-drop, woven-from, length-woven, all-planned, Laid, all_laid}
 use Rattle.formula.proofs.Reducing.{taken-inserted, fit_is, sized_of, sized-length, inside_of}
 
 -- ---- the entries before a place

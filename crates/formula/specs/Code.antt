@@ -4,9 +4,9 @@ use Rattle.words.specs.Outcome.{Res, ok, no}
 use Rattle.words.specs.Numbers.{Why, misfit, no_entry}
 use Rattle.rules.specs.Rules.{Item, con, slot, rule_of, the_rules}
 use Rattle.rules.specs.Code.{a_rule}
-use Rattle.rules.specs.laws.Every.{All}
+use Rattle.rules.specs.Every.{All}
 use Rattle.formula.specs.Reducing.{Trees, flat}
-use Rattle.formula.specs.laws.Turns.{still, facing}
+use Rattle.formula.specs.Turns.{still, facing}
 use Rattle.formula.specs.declared.Trees as held
 use Rattle.formula.specs.declared.Seek.{Seek}
 use Rattle.formula.specs.declared.Turn.{Turn}

@@ -1,5 +1,5 @@
 -- The reduces of an edge with the list's tail moved once. On the sizes of the trees alone it is worked out whether each reduce fits and where its
--- entry goes; then the words of the list and the new entries are put together. laws/Tail proves that this is `reduce_all`.
+-- entry goes; then the words of the list and the new entries are put together. proofs/Theorems/Tail proves that this is `reduce_all`.
 use Rattle.std.specs.Prelude.{List, [], ◌∷◌, ◌++◌, ℕ, suc, ◌+◌, ◌-◌, ◌≤◌, ltb, leb, length, take, drop}
 use Rattle.std.proofs.Math.Option.{Option, some, none}
 use Rattle.words.specs.Outcome.{Res, ok, no, bind, when, pick}

@@ -21,7 +21,7 @@ use Rattle.rows.proofs.Laws.{placed, place-used}
 use Rattle.tree.specs.declared.Fault.TheVariants as why
 use Rattle.garden.specs.Garden.{low_offsets, raised, increment_offsets, raised_on, extend, diff_extend, same_reduces, store_other, leaf_reduces}
 use Rattle.garden.specs.Code.{Lists, has_rule, Carries}
-use Rattle.garden.specs.laws.Alone.{bind_ok}
+use Rattle.garden.proofs.Theorems.Alone.{bind_ok}
 
 -- ---- the list that an edge carries
 

@@ -12,12 +12,12 @@ use borrow.Author.Tests.{lt-ltb, le-ltb}
 use Rattle.words.specs.Limits.{most_edges, most_taken, row_width, most_reduces}
 use Rattle.words.specs.Outcome.{Res, ok, no, bind, when, pick}
 use Rattle.words.specs.Numbers.{Fault, many_rows}
-use Rattle.rules.specs.laws.Every.{All, all_map}
+use Rattle.rules.proofs.Theorems.Every.{All, all_map}
 use Rattle.rows.specs.Rows.{Edge, edge_of, rows_from, row_words}
 use Rattle.rows.specs.Code.{edge_is, Holds, row_at, written}
-use Rattle.rows.specs.laws.Words.{row-length, row_back}
-use Rattle.rows.specs.laws.Lookup.{same_rows}
-use Rattle.rows.specs.laws.Put.{written-length}
+use Rattle.rows.proofs.Theorems.Words.{row-length, row_back}
+use Rattle.rows.proofs.Theorems.Lookup.{same_rows}
+use Rattle.rows.proofs.Theorems.Put.{written-length}
 use Rattle.rows.specs.declared.Edge as held
 use Rattle.rows.specs.declared.Found.{Found}
 use Rattle.rows.specs.declared.Found.TheVariants.{Row, Nothing}

@@ -9,7 +9,7 @@ use lib.Dec.{eqb, ltb}
 use lib.ListN.{length, get_or, take, drop, length-drop, drop_of_length-le}
 use lib.Seq.{length-take-le, drop-drop}
 use borrow.Author.Tests.{lt-ltb, le-ltb, ne_eqb, ltb-false, not-true}
-use Rattle.words.specs.laws.Tests.{and_l, and_r, by-test}
+use Rattle.words.proofs.Theorems.Tests.{and_l, and_r, by-test}
 use Rattle.words.specs.Outcome.{Res, ok, no, bind, pick}
 use Rattle.words.specs.Numbers.{Fault, bad_copy}
 use Rattle.rules.specs.Rules.{Rule}
@@ -24,7 +24,7 @@ use Rattle.tree.specs.declared.Fault.TheVariants as why
 use Rattle.tree.proofs.Laws.{both-stand, on_then, refused-then}
 use Rattle.garden.specs.Garden.{good_pairs, pairs_of, prefix_words, shadow_words, path_size, good_path, Command, conversions, path, bad, command_of, command_size, Pair, commands_of, the_commands, handle_common_prefixes, handle_command, handle_commands, is_conversions, asked, convert_last, tend, build}
 use Rattle.garden.specs.Code.{bounds_of, command_is, CommandIn, Sized, AskedFor, Handles}
-use Rattle.garden.specs.laws.Pairs.{pairs-count}
+use Rattle.garden.proofs.Theorems.Pairs.{pairs-count}
 use Rattle.garden.specs.declared.Handled.{Handled}
 use Rattle.garden.specs.declared.Command as coded
 use Rattle.garden.specs.declared.Command.TheVariants as command

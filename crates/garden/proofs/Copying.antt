@@ -17,9 +17,9 @@ use Rattle.rows.specs.Rows.{Reduce, Edge, edge_of, rows_from, edges_from, row_wo
 use Rattle.rows.specs.Code.{edge_is, Holds, row_at, put_in, place_of}
 use Rattle.rows.specs.declared.Edge as held
 use Rattle.rows.specs.declared.Added.{Added}
-use Rattle.rows.specs.laws.Lookup.{rows_left_lem, row_at-length, rows_step, rows_end, edges-many}
-use Rattle.rows.specs.laws.Order.{place-within}
-use Rattle.rows.specs.laws.Put.{edges-cut, row_number, set-row, put-in-length, put-in-rows}
+use Rattle.rows.proofs.Theorems.Lookup.{rows_left_lem, row_at-length, rows_step, rows_end, edges-many}
+use Rattle.rows.proofs.Theorems.Order.{place-within}
+use Rattle.rows.proofs.Theorems.Put.{edges-cut, row_number, set-row, put-in-length, put-in-rows}
 use Rattle.rows.proofs.Laws.{word_at}
 use Rattle.tree.specs.Grow.{Grown, add_edge}
 use Rattle.tree.specs.Code.{room_of, edges_in, grown_of, grew_of, Rising, FoundAt, Rowed, StillRowed, Rows, Puts}
@@ -32,7 +32,7 @@ use Rattle.tree.specs.declared.Grew.TheVariants.{On, Refused}
 use Rattle.tree.proofs.Laws.{place_inside, row-marked, on_then, refused-then}
 use Rattle.garden.specs.Garden.{standing, raised_on, extend, row_from, copy_with, copy_rows, clone_with_reduce_vec}
 use Rattle.garden.specs.Code.{Lists, older, stood_from, rest_from, NextAt, Kept, Keeps}
-use Rattle.garden.specs.laws.Standing.{older-put, older-all, older-older, stood-older, stood-all, stood-length, stood-start, stood-past}
+use Rattle.garden.proofs.Theorems.Standing.{older-put, older-all, older-older, stood-older, stood-all, stood-length, stood-start, stood-past}
 use Rattle.garden.proofs.Carried.{listed, unlisted}
 
 -- ---- the words of a row

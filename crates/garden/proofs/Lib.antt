@@ -1,3 +1,4 @@
+pub mod Theorems
 -- Laws that the proofs of this crate's functions share.
 pub mod Taking
 pub mod Commands

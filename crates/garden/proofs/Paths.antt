@@ -11,7 +11,7 @@ use lib.Seq.{get_or-take}
 use borrow.Author.Tests.{eq-eqb, ne_eqb, ltb-true, ltb-false}
 use Rattle.words.specs.Outcome.{Res, ok, no, bind, when, lesser}
 use Rattle.words.specs.Numbers.{Fault, bad_copy, far_offset, sixth_reduce}
-use Rattle.words.specs.laws.Tests.{by-test, lesser-le}
+use Rattle.words.proofs.Theorems.Tests.{by-test, lesser-le}
 use Rattle.words.specs.declared.NodeNo.{NodeNo}
 use Rattle.rows.specs.Rows.{Edge, edge_of, find}
 use Rattle.rows.specs.Code.{edge_is, Holds, row_at}
@@ -19,7 +19,7 @@ use Rattle.rows.specs.declared.Edge as held
 use Rattle.rows.specs.declared.Added.{Added}
 use Rattle.tree.specs.Grow.{Grown, branch_at, apart}
 use Rattle.tree.specs.Code.{room_of, fault_of, grown_of, edges_in, FoundAt, Stands, Rows, Meets}
-use Rattle.tree.specs.laws.Counted.{branch-is, apart-is}
+use Rattle.tree.proofs.Theorems.Counted.{branch-is, apart-is}
 use Rattle.tree.specs.declared.Counts.{Counts}
 use Rattle.tree.specs.declared.Room as lent
 use Rattle.tree.specs.declared.Fault.TheVariants as why
@@ -28,7 +28,7 @@ use Rattle.tree.specs.declared.Grew.TheVariants.{Refused}
 use Rattle.tree.proofs.Laws.{held_to}
 use Rattle.garden.specs.Garden.{Pair, pairs_of, good_pairs, Places, Parting, part_at, diff_extend, raised_on, extend, the_edge, edge_for, leads_to, of_kind, move_on, along_pair, along, clone_with_reduce_vec, clone_branches, shadowed, graft_leaf, graft, graft_at, handle_common_prefixes}
 use Rattle.garden.specs.Code.{Lists, cloning_of, bounds_of, pair_at, parted_of, reached_of, ReachedIn, places_of, along_of, Placed, Along}
-use Rattle.garden.specs.laws.Pairs.{PairHere, pair-here, pairs_end}
+use Rattle.garden.proofs.Theorems.Pairs.{PairHere, pair-here, pairs_end}
 use Rattle.garden.specs.declared.path.Parted.{Parted}
 use Rattle.garden.specs.declared.path.Parted.TheVariants as parts
 use Rattle.garden.specs.declared.path.Reached.{Reached}

@@ -19,7 +19,7 @@ use Rattle.rows.specs.declared.Edge as held
 use Rattle.rows.specs.declared.Added.{Added}
 use Rattle.tree.specs.Grow.{Grown, Room, add_edge, branch_at, apart}
 use Rattle.tree.specs.Code.{room_of, edges_in, grown_of, FoundAt, Stands, Rows, Meets}
-use Rattle.tree.specs.laws.Counted.{nodes-count, branch-is, apart-is}
+use Rattle.tree.proofs.Theorems.Counted.{nodes-count, branch-is, apart-is}
 use Rattle.tree.specs.declared.Counts.{Counts}
 use Rattle.tree.specs.declared.Room as lent
 use Rattle.tree.specs.declared.Fault as why

@@ -4,7 +4,7 @@ use Rattle.std.proofs.Math.Option.{Option, some, none}
 use Rattle.words.specs.Limits.{most_edges, most_taken, row_width, most_reduces}
 use Rattle.words.specs.Outcome.{Res, ok, no, bind, when, pick}
 use Rattle.words.specs.Numbers.{Fault, bad_copy}
-use Rattle.rules.specs.laws.Every.{All}
+use Rattle.rules.specs.Every.{All}
 use Rattle.rows.specs.Rows.{Reduce, Edge, edge_of, rows_from}
 use Rattle.rows.specs.Code.{edge_is, with_reduces, row_at, written}
 use Rattle.rows.specs.declared.Edge as held

@@ -1,3 +1,2 @@
 pub mod Garden
 pub mod Code
-pub mod laws

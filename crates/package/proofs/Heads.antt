@@ -5,11 +5,11 @@ use mathlib.Core.Bool.{Bool, true, false, false≢true}
 use mathlib.Core.List.{List, [], ◌∷◌}
 use native.Mathlib.Omega.{arith}
 use lib.ListN.{length, get_or, take, drop, drop_of_length-le}
-use Rattle.words.specs.laws.Parts.{part-all}
+use Rattle.words.proofs.Theorems.Parts.{part-all}
 use Rattle.package.specs.Bytes.{little, words_of}
 use Rattle.words.specs.Numbers.{cut_short, unknown_kind, wrong_size, wrong_order}
 use Rattle.words.specs.Outcome.{pick, demand, first_fault}
-use Rattle.words.specs.laws.Faults.{Each, none_left, one_more, fault-stays, fault-after}
+use Rattle.words.proofs.Theorems.Faults.{Each, none_left, one_more, fault-stays, fault-after}
 use Rattle.package.specs.Package.{record_size, kind_of, in_order, head_demands, record_demands}
 use Rattle.package.specs.Code.{found_by, found_in}
 use Rattle.package.specs.declared.Found.TheVariants.{Record, Refused}

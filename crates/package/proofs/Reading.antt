@@ -15,17 +15,17 @@ use Rattle.words.specs.Lent.{zeros, padded, cleared_from}
 use Rattle.words.specs.Counted.{counted}
 use Rattle.words.specs.Numbers.{accepted, no_room, bad_rules, wrong_order}
 use Rattle.words.specs.Outcome.{Res, ok, no, pick, Demand, demand, first_fault}
-use Rattle.words.specs.laws.Faults.{met, unmet}
-use Rattle.words.specs.laws.Parts.{part-all}
+use Rattle.words.proofs.Theorems.Faults.{met, unmet}
+use Rattle.words.proofs.Theorems.Parts.{part-all}
 use Rattle.rules.specs.Rules.{rules_good}
 use Rattle.package.specs.Bytes.{little, words_of}
 use Rattle.package.specs.Package.{Package, Read, typecodes, one_rule, old_rule, statement, the_end, nothing, record_size, kind_of, body_of, sized, record_demands, Refusal, refusal, renewed, put_words, ended, scan, says, not_read, read_demands, read_after, read_by, read_gives}
 use Rattle.package.specs.Code.{found_in, Holds, Put, refused_is, Stands, Takes, Small, Scanned, read_is, Settled}
 use Rattle.package.specs.declared.Package as code
 use Rattle.package.specs.declared.Found.TheVariants.{Record, Refused}
-use Rattle.package.specs.laws.Bytes.{words-length, word_small}
-use Rattle.package.specs.laws.Records.{faultless, scan-record, scan-refused, ended-more}
-use Rattle.package.specs.laws.Few.{Few, few-more, counted-last}
+use Rattle.package.proofs.Theorems.Bytes.{words-length, word_small}
+use Rattle.package.proofs.Theorems.Records.{faultless, scan-record, scan-refused, ended-more}
+use Rattle.package.proofs.Theorems.Few.{Few, few-more, counted-last}
 use Rattle.package.proofs.Numbers.{word_at, items_at}
 use Rattle.package.proofs.Heads.{found-record, found-refused}
 

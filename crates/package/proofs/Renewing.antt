@@ -11,10 +11,10 @@ use lib.Seq.{take_at, drop_at, drop-drop, length-take-le}
 use Rattle.package.specs.Bytes.{little, first_words, words_of}
 use Rattle.package.specs.Package.{old_rule, old_width, sized, numbered, renewed}
 use Rattle.package.specs.Code.{Put, PutItem}
-use Rattle.package.specs.laws.Bytes.{words-length}
-use Rattle.package.specs.laws.Records.{rule-size}
-use Rattle.package.specs.laws.Old.{numbered-pairs}
-use Rattle.package.specs.laws.Trips.{two-words}
+use Rattle.package.proofs.Theorems.Bytes.{words-length}
+use Rattle.package.proofs.Theorems.Records.{rule-size}
+use Rattle.package.proofs.Theorems.Old.{numbered-pairs}
+use Rattle.package.proofs.Theorems.Trips.{two-words}
 use Rattle.package.proofs.Numbers.{word_at}
 
 -- words put one after another

@@ -18,18 +18,18 @@ use Rattle.words.specs.Numbers.{no_room, bad_rules, wrong_size}
 use Rattle.words.specs.Outcome.{Res, ok, no, Demand, demand, first_fault}
 use Rattle.words.specs.Code.{how_many}
 use Rattle.words.specs.declared.Lists.TheVariants.{Whole, Cut}
-use Rattle.words.specs.laws.Counted.{lists-whole}
-use Rattle.words.specs.laws.Faults.{met, unmet}
+use Rattle.words.proofs.Theorems.Counted.{lists-whole}
+use Rattle.words.proofs.Theorems.Faults.{met, unmet}
 use Rattle.rules.specs.Rules.{size_of, rest_of, good_rules, rules_good}
-use Rattle.rules.specs.laws.Words.{Ahead, ahead-here, ahead-start, good-rule, rules-most}
+use Rattle.rules.proofs.Theorems.Words.{Ahead, ahead-here, ahead-start, good-rule, rules-most}
 use Rattle.package.specs.Bytes.{bytes_of, word_bytes}
 use Rattle.package.specs.Package.{typecodes, one_rule, statement, the_end, most_written, short, record_bytes, rule_records, statement_records, written, Package, Written, not_written, write_after, write_by, write_gives}
 use Rattle.package.specs.Code.{pasted, Room, package_of, written_is, Weighed, Composed}
 use Rattle.package.specs.declared.Written as code
-use Rattle.package.specs.laws.Bytes.{bytes-length, words-bytes}
-use Rattle.package.specs.laws.Records.{record-parts}
-use Rattle.package.specs.laws.Lengths.{record-first, brief-first, package-parts}
-use Rattle.package.specs.laws.Writes.{write_demands, write-lists, lists-by, no-fault, Fine, fine-gives, refused-zeros-write}
+use Rattle.package.proofs.Theorems.Bytes.{bytes-length, words-bytes}
+use Rattle.package.proofs.Theorems.Records.{record-parts}
+use Rattle.package.proofs.Theorems.Lengths.{record-first, brief-first, package-parts}
+use Rattle.package.proofs.Theorems.Writes.{write_demands, write-lists, lists-by, no-fault, Fine, fine-gives, refused-zeros-write}
 
 -- ---- bytes put into a slice
 

@@ -1,4 +1,3 @@
 pub mod Bytes
 pub mod Package
 pub mod Code
-pub mod laws

@@ -13,14 +13,14 @@ use lib.Seq.{get_or-set_same, get_or-set_other}
 use borrow.Author.Tests.{eqb-true, eqb-false, ltb-true, ltb-false, lt-ltb, le-ltb, eq-eqb}
 use Rattle.words.specs.Lent.{zeros}
 use Rattle.words.specs.Outcome.{pick}
-use Rattle.rules.specs.laws.Every.{All}
+use Rattle.rules.proofs.Theorems.Every.{All}
 use Rattle.rows.specs.Rows.{Edge, edge_of, edges_of, below, rising, keyed, leaving, bare}
 use Rattle.rows.specs.Code.{row_at, place_of, looks_up, mark, Tabled, Spans, row_named, RootRows}
 use Rattle.rows.specs.declared.Found.{Found}
 use Rattle.rows.specs.declared.Found.TheVariants.{Row, Nothing}
-use Rattle.rows.specs.laws.Order.{Lower, by-from, by_kind, by-symbol, Under, lower-trans, below-under, under-below, nth, rising-between, only_row, together}
-use Rattle.rows.specs.laws.Lookup.{edges-count, edge_at, row-found, none_found}
-use Rattle.rows.specs.laws.Fair.{found}
+use Rattle.rows.proofs.Theorems.Order.{Lower, by-from, by_kind, by-symbol, Under, lower-trans, below-under, under-below, nth, rising-between, only_row, together}
+use Rattle.rows.proofs.Theorems.Lookup.{edges-count, edge_at, row-found, none_found}
+use Rattle.rows.proofs.Theorems.Fair.{found}
 use Rattle.rows.proofs.Laws.{word_at, place_in, half-lower, half-higher}
 
 -- ---- rows before and after a key's place

@@ -14,16 +14,16 @@ use borrow.Author.Tests.{lt-ltb, le-ltb}
 use borrow.Rule.Slice.PartMut.{put_mid}
 use Rattle.words.specs.Limits.{most_edges}
 use Rattle.words.specs.Lent.{moved_up}
-use Rattle.words.specs.laws.Tests.{tests}
+use Rattle.words.proofs.Theorems.Tests.{tests}
 use Rattle.rows.specs.Rows.{Reduce, Edge, with_reduce, reduces_of, edge_of, edges_from, edges_of, rows_of, reduce_words, row_words, below, precedes, rising, keyed, bare, good_nodes, good_pair, good_pairs, good_ends, good_rows, edges_good}
 use Rattle.rows.specs.Code.{reduce_is, edge_is, Holds, Adds, row_at, written, put_in, place_of, looks_up}
 use Rattle.rows.specs.declared.Reduce as coded
 use Rattle.rows.specs.declared.Edge as held
 use Rattle.rows.specs.declared.Found.TheVariants.{Row, Nothing}
-use Rattle.rows.specs.laws.Words.{row-length, last_word}
-use Rattle.rows.specs.laws.Fair.{reduces-length}
-use Rattle.rows.specs.laws.Lookup.{rows_left, rows_step, rows_end, edges-count, edges-left, edges_step, edge_at}
-use Rattle.rows.specs.laws.Order.{place-within, place-before, place_after, place-row, place_none, place-bare, not-bare}
+use Rattle.rows.proofs.Theorems.Words.{row-length, last_word}
+use Rattle.rows.proofs.Theorems.Fair.{reduces-length}
+use Rattle.rows.proofs.Theorems.Lookup.{rows_left, rows_step, rows_end, edges-count, edges-left, edges_step, edge_at}
+use Rattle.rows.proofs.Theorems.Order.{place-within, place-before, place_after, place-row, place_none, place-bare, not-bare}
 
 -- ---- rows, from row r on
 

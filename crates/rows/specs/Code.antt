@@ -3,7 +3,7 @@ use Rattle.std.specs.Prelude.{ℕ, zero, suc, ◌+◌, ◌*◌, ◌/◌, ◌≤�
 use Rattle.std.proofs.Math.Option.{none, some}
 use Rattle.words.specs.Limits.{row_width, most_reduces, most_edges}
 use Rattle.words.specs.Outcome.{pick}
-use Rattle.rules.specs.laws.Every.{All}
+use Rattle.rules.specs.Every.{All}
 use Rattle.rows.specs.Rows.{Reduce, Edge, edge_of, rows_from, edges_from, edges_of, row_words, edge_words, below, rising, keyed, with_reduce}
 use Rattle.rows.specs.declared.Reduce as coded
 use Rattle.rows.specs.declared.Edge as held

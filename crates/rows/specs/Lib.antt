@@ -1,4 +1,3 @@
 pub mod Rows
 pub mod Sheet
 pub mod Code
-pub mod laws

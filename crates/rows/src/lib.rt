@@ -5,7 +5,7 @@ ghost use Rattle.std.specs.Prelude.{◌≡◌, true, not, ◌+◌, ◌/◌, ◌%
 ghost use Rattle.words.specs.Limits.{row_width, most_reduces, most_offset, most_nodes, most_edges};
 ghost use Rattle.rows.specs.Rows.{edge_of, rows_from, edges_of, row_words, below, precedes, rising, keyed, bare, good_nodes, good_pair, root_to_leaf, good_ends, nodes_good, edges_good, tables_good};
 ghost use Rattle.rows.specs.Code.{reduce_is, edge_is, Holds, Adds, row_at, Spells, written, put_in, cleared, place_of, looks_up, mark, Firsts, Tabled, Spans, row_named, RootRows};
-ghost use Rattle.rules.specs.laws.Every.{All};
+ghost use Rattle.rules.specs.Every.{All};
 
 // An edge's places for reduces.
 const PLACES: usize = words::MOST_REDUCES as usize;

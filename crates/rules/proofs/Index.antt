@@ -12,7 +12,7 @@ use borrow.Author.Tests.{eqb-true, eqb-false}
 use Rattle.rules.specs.Rules.{Rule, Item, con, slot, slots, size_of, rule_of, good_rule, good_rules}
 use Rattle.words.specs.Limits.{most_rules}
 use Rattle.rules.specs.Code.{Starts, mark, Marks, Indexed}
-use Rattle.rules.specs.laws.Words.{Here, ahead-here, body-count}
+use Rattle.rules.proofs.Theorems.Words.{Here, ahead-here, body-count}
 use Rattle.rules.proofs.Laws.{Search, search-start, search-found, search-next}
 
 -- ---- what it says

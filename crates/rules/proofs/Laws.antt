@@ -9,10 +9,10 @@ use lib.ListN.{length, take, drop, drop_of_length-le}
 use lib.Seq.{drop-cons, drop-drop}
 use Rattle.words.specs.Limits.{most_rules}
 use Rattle.words.specs.Outcome.{pick}
-use Rattle.words.specs.laws.Parts.{part-all}
+use Rattle.words.proofs.Theorems.Parts.{part-all}
 use Rattle.rules.specs.Rules.{size_of, rest_of, the_rules, good_rule, good_rules, no_stretch, stretch_from}
 use Rattle.rules.specs.Code.{first_rule, Starts, Missing}
-use Rattle.rules.specs.laws.Words.{Ahead, Here, ahead-start, ahead-here, ahead-end, rule-past, rules-most}
+use Rattle.rules.proofs.Theorems.Words.{Ahead, Here, ahead-start, ahead-here, ahead-end, rule-past, rules-most}
 use Rattle.rules.specs.declared.First.{First}
 use Rattle.rules.specs.declared.First.TheVariants.{Size, Bad}
 

@@ -1,4 +1,4 @@
 pub mod Rules
 pub mod Sheet
 pub mod Code
-pub mod laws
+pub mod Every

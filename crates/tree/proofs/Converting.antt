@@ -19,19 +19,19 @@ use Rattle.rules.specs.Rules.{rule_of, the_rules, source}
 use Rattle.rules.specs.Code.{source_of}
 use Rattle.rules.specs.declared.Conversion.{Conversion}
 use Rattle.rules.specs.declared.Conversion.TheVariants.{From, No}
-use Rattle.rules.specs.laws.Every.{chain-at}
-use Rattle.rules.specs.laws.Words.{Ahead, ahead-end, ahead-here}
+use Rattle.rules.proofs.Theorems.Every.{chain-at}
+use Rattle.rules.proofs.Theorems.Words.{Ahead, ahead-end, ahead-here}
 use Rattle.rows.specs.Rows.{Reduce, Edge, edge_of, insert_edge, find, leaving, with_reduce}
 use Rattle.rows.specs.Code.{edge_is, Holds, Adds, row_at, place_of}
 use Rattle.rows.specs.declared.Edge as held
 use Rattle.rows.specs.declared.Added.{Added}
-use Rattle.rows.specs.laws.Lookup.{edge_at, row_within}
-use Rattle.rows.specs.laws.Order.{place-within, Together, together}
-use Rattle.rows.specs.laws.Insert.{leaving-other}
-use Rattle.rows.specs.laws.Fair.{found}
+use Rattle.rows.proofs.Theorems.Lookup.{edge_at, row_within}
+use Rattle.rows.proofs.Theorems.Order.{place-within, Together, together}
+use Rattle.rows.proofs.Theorems.Insert.{leaving-other}
+use Rattle.rows.proofs.Theorems.Fair.{found}
 use Rattle.tree.specs.Grow.{Grown, Room, add_edge, add_converted, offset_on, copy_row, copy_branches, apart, convert_to, convert_at, convert_nodes, convert, convert_all}
 use Rattle.tree.specs.Code.{room_of, edges_in, grown_of, grew_of, FoundAt, Leads, Rowed, StillRowed, Rows, reduces_in, copy_of, convert_first}
-use Rattle.tree.specs.laws.Counted.{apart-is}
+use Rattle.tree.proofs.Theorems.Counted.{apart-is}
 use Rattle.tree.specs.declared.Counts.{Counts}
 use Rattle.tree.specs.declared.Room as lent
 use Rattle.tree.specs.declared.Fault as why

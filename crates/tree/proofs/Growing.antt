@@ -10,13 +10,13 @@ use Rattle.words.specs.Limits.{row_width}
 use Rattle.words.specs.Outcome.{Res, bind, when}
 use Rattle.words.specs.Numbers.{Fault}
 use Rattle.rules.specs.Rules.{Rule}
-use Rattle.rules.specs.laws.Every.{All}
+use Rattle.rules.proofs.Theorems.Every.{All}
 use Rattle.rows.specs.Rows.{rows_from, edges_from, edge_words, rising}
 use Rattle.rows.specs.Code.{Spells, cleared}
-use Rattle.rows.specs.laws.Put.{edges-cut, cleared-front}
+use Rattle.rows.proofs.Theorems.Put.{edges-cut, cleared-front}
 use Rattle.tree.specs.Grow.{Grown, place_rules, root_alone, plant}
 use Rattle.tree.specs.Code.{room_of, edges_in, grown_of, Rowed, Stands, StillStands, Meets, Ready, Finishes, Within, Grows}
-use Rattle.tree.specs.laws.Counted.{nodes-count}
+use Rattle.tree.proofs.Theorems.Counted.{nodes-count}
 use Rattle.tree.specs.declared.Counts.{Counts}
 use Rattle.tree.specs.declared.Room as lent
 use Rattle.tree.specs.declared.Fault as why

@@ -14,19 +14,19 @@ use borrow.Author.Tests.{lt-ltb, le-ltb}
 use Rattle.words.specs.Limits.{most_nodes, row_width, most_reduces}
 use Rattle.words.specs.Outcome.{Res, no, bind, when}
 use Rattle.words.specs.Numbers.{Fault}
-use Rattle.rules.specs.laws.Every.{all_map}
+use Rattle.rules.proofs.Theorems.Every.{all_map}
 use Rattle.rows.specs.Rows.{Edge, edge_of, rows_from, edges_of, rising, insert_edge, find, leaving}
 use Rattle.rows.specs.Code.{edge_is, Holds, row_at, put_in, place_of, looks_up}
 use Rattle.rows.specs.declared.Found.{Found}
 use Rattle.rows.specs.declared.Found.TheVariants.{Row, Nothing}
 use Rattle.rows.specs.declared.Edge as held
-use Rattle.rows.specs.laws.Lookup.{row_at-length, edges-count, edges_step, row_within, row-found, none_found}
-use Rattle.rows.specs.laws.Put.{edges-cut, last-edges, last-spells, last-all, written_last, put-in-length, put-in-edges, put-in-spells, put-in-all, all_drop}
-use Rattle.rows.specs.laws.Order.{place-within, together}
-use Rattle.rows.specs.laws.Insert.{insert-split, insert_all, insert-rises}
+use Rattle.rows.proofs.Theorems.Lookup.{row_at-length, edges-count, edges_step, row_within, row-found, none_found}
+use Rattle.rows.proofs.Theorems.Put.{edges-cut, last-edges, last-spells, last-all, written_last, put-in-length, put-in-edges, put-in-spells, put-in-all, all_drop}
+use Rattle.rows.proofs.Theorems.Order.{place-within, together}
+use Rattle.rows.proofs.Theorems.Insert.{insert-split, insert_all, insert-rises}
 use Rattle.tree.specs.Grow.{Grown, add_edge, add_node}
 use Rattle.tree.specs.Code.{room_of, fault_of, edges_in, grown_of, grew_of, Rising, Looks, Leads, Aged, Rowed, Stands, StillRowed, Rows, StillStands, Meets}
-use Rattle.tree.specs.laws.Counted.{nodes-count}
+use Rattle.tree.proofs.Theorems.Counted.{nodes-count}
 use Rattle.tree.specs.declared.Counts.{Counts}
 use Rattle.tree.specs.declared.Room as lent
 use Rattle.tree.specs.declared.Fault as why

@@ -19,13 +19,13 @@ use Rattle.rules.specs.Rules.{Item, size_of, body_words, items_of, rule_of, the_
 use Rattle.rules.specs.Code.{some_rules, source_of}
 use Rattle.rules.specs.declared.Conversion.{Conversion}
 use Rattle.rules.specs.declared.Conversion.TheVariants.{From, No}
-use Rattle.rules.specs.laws.Words.{from-item, rules-most, Ahead, Here, ahead-start, ahead-end, ahead-here}
+use Rattle.rules.proofs.Theorems.Words.{from-item, rules-most, Ahead, Here, ahead-start, ahead-end, ahead-here}
 use Rattle.rows.specs.Rows.{edge_of, insert_edge, find}
 use Rattle.rows.specs.Code.{Holds, row_at}
 use Rattle.rows.specs.declared.Edge as held
 use Rattle.tree.specs.Grow.{Grown, Room, kind, sym, edge_for, add_edge, add_node, place_last, place_inner, place, place_rule, place_rules}
 use Rattle.tree.specs.Code.{room_of, edges_in, grown_of, FoundAt, Stands, Meets, branch_of, inner_of, place_first, StillAt, Places}
-use Rattle.tree.specs.laws.Counted.{nodes-count, branch-is}
+use Rattle.tree.proofs.Theorems.Counted.{nodes-count, branch-is}
 use Rattle.tree.specs.declared.Counts.{Counts}
 use Rattle.tree.specs.declared.Room as lent
 use Rattle.tree.specs.declared.Fault as why

@@ -5,7 +5,7 @@ use Rattle.words.specs.Limits.{most_nodes, row_width, most_reduces}
 use Rattle.words.specs.Outcome.{Res, ok, no, bind, when, pick}
 use Rattle.words.specs.Numbers.{Fault, collides, no_node, no_edge, sixth_reduce, far_offset, bad_copy, many_rows, no_clone}
 use Rattle.rules.specs.Rules.{Item, rule_of, source}
-use Rattle.rules.specs.laws.Every.{All}
+use Rattle.rules.specs.Every.{All}
 use Rattle.rows.specs.Rows.{Reduce, Edge, edge_of, rows_from, edges_of, edge_words, rising, find}
 use Rattle.rows.specs.Code.{edge_is, row_at, Spells, put_in, cleared, place_of}
 use Rattle.rows.specs.declared.Added.{Added}

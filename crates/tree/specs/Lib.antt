@@ -1,3 +1,2 @@
 pub mod Grow
 pub mod Code
-pub mod laws

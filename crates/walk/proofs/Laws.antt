@@ -11,8 +11,8 @@ use lib.ListN.{length, get_or, set, take, drop, drop_of_length-le}
 use borrow.Author.Tests.{eq-eqb, ne_eqb}
 use lib.Seq.{get_or-set_same, get_or-set_other}
 use Rattle.rules.specs.Rules.{Rule, the_rules, rule_of, size_of, source}
-use Rattle.words.specs.laws.Parts.{part-all}
-use Rattle.rules.specs.laws.Words.{Ahead, ahead-start, ahead-here, ahead-end}
+use Rattle.words.proofs.Theorems.Parts.{part-all}
+use Rattle.rules.proofs.Theorems.Words.{Ahead, ahead-start, ahead-here, ahead-end}
 use Rattle.words.specs.declared.SymbolNo.{SymbolNo}
 use Rattle.words.specs.declared.NodeNo.{NodeNo}
 use Rattle.rules.specs.Code.{some_rules, source_of}
@@ -20,7 +20,7 @@ use Rattle.rules.specs.declared.Conversion.{Conversion}
 use Rattle.rules.specs.declared.Conversion.TheVariants.{From, No}
 use Rattle.rows.specs.Rows.{edges_of}
 use Rattle.rows.specs.Code.{looks_up}
-use Rattle.rows.specs.laws.Lookup.{row-found, none_found}
+use Rattle.rows.proofs.Theorems.Lookup.{row-found, none_found}
 use Rattle.rows.specs.declared.Found.{Found}
 use Rattle.rows.specs.declared.Found.TheVariants.{Row}
 use Rattle.rows.specs.declared.Found.TheVariants as found

@@ -15,8 +15,8 @@ use Rattle.words.specs.Outcome.{Res, ok, no, bind, when}
 use Rattle.words.specs.Limits.{row_width, most_reduces}
 use Rattle.words.specs.Numbers.{Why, misfit, no_entry}
 use Rattle.rules.specs.Rules.{the_rules, rule_of}
-use Rattle.words.specs.laws.Parts.{part-all}
-use Rattle.words.specs.laws.Tests.{failed, passed}
+use Rattle.words.proofs.Theorems.Parts.{part-all}
+use Rattle.words.proofs.Theorems.Tests.{failed, passed}
 use Rattle.words.specs.declared.NodeNo.{NodeNo}
 use Rattle.words.specs.declared.SymbolNo.{SymbolNo}
 use Rattle.rules.specs.Code as rules
@@ -26,14 +26,14 @@ use Rattle.rules.specs.declared.Start.TheVariants as start
 use Rattle.rows.specs.Rows.{Reduce, Edge, edge_of, edges_of, find, bare}
 use Rattle.rows.specs.Code.{looks_up, edge_is, Holds, row_at}
 use Rattle.rows.specs.declared.Edge as edge
-use Rattle.rows.specs.laws.Lookup.{row-found, none_found}
+use Rattle.rows.proofs.Theorems.Lookup.{row-found, none_found}
 use Rattle.rows.specs.declared.Found.{Found}
 use Rattle.rows.specs.declared.Found.TheVariants.{Row}
 use Rattle.rows.specs.declared.Found.TheVariants as found
 use Rattle.formula.specs.Check.{check}
 use Rattle.formula.specs.Reducing.{Trees, flat, reduce, reduce_all}
 use Rattle.formula.specs.Code as formula
-use Rattle.formula.specs.laws.Held.{trees-count}
+use Rattle.formula.proofs.Theorems.Held.{trees-count}
 use Rattle.formula.specs.declared.Trees as held
 use Rattle.formula.specs.declared.Reduced.{Reduced}
 use Rattle.formula.specs.declared.Reduced.TheVariants.{Done, TooFew, Full}

@@ -14,16 +14,16 @@ use Rattle.words.specs.Outcome.{Res, lesser}
 use Rattle.words.specs.Limits.{most_tokens}
 use Rattle.words.specs.Numbers.{accepted, no_pass, Why, number, place}
 use Rattle.rules.specs.Rules.{the_rules, rule_at, rules_good}
-use Rattle.words.specs.laws.Tests.{by-test, lesser-le}
-use Rattle.rules.specs.laws.Words.{rules-good}
+use Rattle.words.proofs.Theorems.Tests.{by-test, lesser-le}
+use Rattle.rules.proofs.Theorems.Words.{rules-good}
 use Rattle.rows.specs.Rows.{tables_good}
 use Rattle.rules.specs.Code.{Indexed}
 use Rattle.rows.specs.Code.{Firsts}
-use Rattle.rows.specs.laws.Fair.{tables-tabled}
+use Rattle.rows.proofs.Theorems.Fair.{tables-tabled}
 use Rattle.words.specs.declared.RuleNo.{RuleNo}
 use Rattle.words.specs.declared.SymbolNo.{SymbolNo}
 use Rattle.formula.specs.Code as formula
-use Rattle.formula.specs.laws.Held.{trees-none, inside-none}
+use Rattle.formula.proofs.Theorems.Held.{trees-none, inside-none}
 use Rattle.walk.specs.Walk.{Tables, tables_of, Room, State, leaf, branch, pass_by, pass, Turn, Walked, refused, after, run, start, wanted_of, walk}
 use Rattle.walk.specs.Code.{tables, room_of, stack, state_of, Placed, Fit, wish_of, Stood, Ready, Branches, Leaves, node_is, Passes, start_at, Lent, Answers, why_of, turn_of}
 use Rattle.walk.specs.declared.Wish.{Wish}
@@ -33,7 +33,7 @@ use Rattle.walk.specs.declared.Node.{Node}
 use Rattle.walk.specs.declared.Node.TheVariants.{Branch, Leaf}
 use Rattle.walk.proofs.Laws.{framed}
 use Rattle.walk.specs.declared.Why as code
-use Rattle.walk.specs.laws.Ample.{tables-slim, walk-ample}
+use Rattle.walk.proofs.Theorems.Ample.{tables-slim, walk-ample}
 use Rattle.walk.specs.declared.Walked as answer
 use Rattle.walk.specs.declared.At.{At}
 use Rattle.walk.specs.declared.Turn as declared

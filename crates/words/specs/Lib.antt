@@ -4,4 +4,3 @@ pub mod Outcome
 pub mod Counted
 pub mod Code
 pub mod Numbers
-pub mod laws

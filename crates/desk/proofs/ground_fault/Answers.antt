@@ -1,9 +1,9 @@
 use mathlib.Core.Path.{◌≡◌}
 use mathlib.Core.Bool.{true}
 use Rattle.words.specs.Outcome.{first_fault}
-use Rattle.words.specs.laws.Tests.{tests, failed, passed}
+use Rattle.words.proofs.Theorems.Tests.{tests, failed, passed}
 use Rattle.rules.specs.Rules.{rules_good}
-use Rattle.rules.specs.laws.Words.{rules-good}
+use Rattle.rules.proofs.Theorems.Words.{rules-good}
 use Rattle.desk.proofs.Laws.{counted-tables}
 use Rattle.desk.proofs.ground_fault.Goals as goal
 

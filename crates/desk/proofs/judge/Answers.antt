@@ -4,10 +4,10 @@ use mathlib.Core.Path.{sym, ◌∙◌}
 use mathlib.Core.List.{[]}
 use native.Mathlib.Omega.{arith}
 use lib.ListN.{length}
-use Rattle.words.specs.laws.Tests.{tests, failed, passed}
-use Rattle.words.specs.laws.Faults.{met, unmet}
-use Rattle.rules.specs.laws.Words.{rules-good}
-use Rattle.desk.specs.laws.Promises.{Asks}
+use Rattle.words.proofs.Theorems.Tests.{tests, failed, passed}
+use Rattle.words.proofs.Theorems.Faults.{met, unmet}
+use Rattle.rules.proofs.Theorems.Words.{rules-good}
+use Rattle.desk.proofs.Theorems.Promises.{Asks}
 use Rattle.desk.proofs.Laws.{decided}
 use borrow.Author.Rules.{rules}
 use Rattle.desk.proofs.judge.Goals as goal

@@ -1,6 +1,6 @@
 use native.Mathlib.Omega.{arith}
 use Rattle.desk.specs.Code.{asked}
-use Rattle.desk.specs.laws.Promises.{walk-goes}
+use Rattle.desk.proofs.Theorems.Promises.{walk-goes}
 use Rattle.desk.proofs.Laws.{tried-fault, tried-walk, few-tokens, many-tokens, fit-tokens}
 use Rattle.desk.proofs.parse_one.Goals as goal
 

@@ -2,10 +2,10 @@ use mathlib.Core.Path.{◌≡◌, refl}
 use mathlib.Core.Bool.{true}
 use lib.ListN.{length}
 use Rattle.words.specs.Numbers.{bad_rules}
-use Rattle.words.specs.laws.Tests.{failed, passed}
+use Rattle.words.proofs.Theorems.Tests.{failed, passed}
 use Rattle.rules.specs.Rules.{rules_good}
 use native.Mathlib.Omega.{arith}
-use Rattle.rules.specs.laws.Words.{rules-good}
+use Rattle.rules.proofs.Theorems.Words.{rules-good}
 use Rattle.desk.proofs.Laws.{raised-no, build-bad, raised-on, raised-refused, room_fits, counts-small}
 use Rattle.desk.proofs.raise.Goals as goal
 

@@ -3,7 +3,7 @@ use Prim.Native.Nat.{◌-◌, ◌<◌}
 use native.Mathlib.Omega.{arith}
 use borrow.Author.Rules.{rules}
 use lib.ListN.{get_or, drop}
-use Rattle.words.specs.laws.Parts.{part-all}
+use Rattle.words.proofs.Theorems.Parts.{part-all}
 use Rattle.rules.specs.Rules.{rule_of}
 use Rattle.rules.specs.Code.{Starts, Found}
 use Rattle.formula.proofs.Checking.{fills-short, fills-none, fills-wrong, fills-on}

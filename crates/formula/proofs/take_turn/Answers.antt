@@ -5,9 +5,9 @@ use native.Mathlib.Omega.{arith}
 use borrow.Author.Rules.{rules}
 use borrow.Author.Tests.{eq-eqb, ne_eqb}
 use lib.ListN.{length, get_or, take, drop, length-drop, length-set}
-use Rattle.words.specs.laws.Parts.{part-all}
+use Rattle.words.proofs.Theorems.Parts.{part-all}
 use Rattle.rules.specs.Rules.{rule_of}
-use Rattle.rules.specs.laws.Words.{good-rule}
+use Rattle.rules.proofs.Theorems.Words.{good-rule}
 use Rattle.rules.specs.Code.{item_is}
 use Rattle.formula.specs.Code.{places, Pending}
 use Rattle.formula.proofs.Checking.{turns-done, top-pending, turns-off, turns-stacked, turns-item}

@@ -2,7 +2,7 @@ use Prim.Native.Nat.{◌+◌, ◌*◌, ◌<◌}
 use mathlib.Core.Path.{◌≡◌, ap, ◌∙◌}
 use native.Mathlib.Omega.{arith}
 use lib.ListN.{length, drop}
-use Rattle.words.specs.laws.Parts.{part-all}
+use Rattle.words.proofs.Theorems.Parts.{part-all}
 use Rattle.rules.specs.Rules.{items_of, rule_of}
 use Rattle.formula.specs.Code.{places}
 use Rattle.formula.proofs.Checking.{word_fits, whole-body}

@@ -1,7 +1,7 @@
 use native.Mathlib.Omega.{arith}
 use borrow.Author.Rules.{rules}
-use Rattle.words.specs.laws.Tests.{tests, failed, passed}
-use Rattle.garden.specs.laws.Pairs.{good-end, good-step, pairs-odd}
+use Rattle.words.proofs.Theorems.Tests.{tests, failed, passed}
+use Rattle.garden.proofs.Theorems.Pairs.{good-end, good-step, pairs-odd}
 use Rattle.garden.proofs.good_pairs.Goals as goal
 
 pub returns-then-ws-ne0 : goal.returns-then-ws-ne0

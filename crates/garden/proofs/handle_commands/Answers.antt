@@ -2,7 +2,7 @@ use mathlib.Core.Path.{refl, ◌∙◌}
 use Prim.Native.Nat.{◌-◌, ◌<◌}
 use native.Mathlib.Omega.{arith}
 use lib.ListN.{length, get_or, take, drop, length-drop}
-use Rattle.words.specs.laws.Parts.{part-all}
+use Rattle.words.proofs.Theorems.Parts.{part-all}
 use Rattle.rules.specs.Rules.{the_rules}
 use Rattle.garden.proofs.Commands.{commanded-more, commanded-refused, commanded-end}
 use Rattle.garden.proofs.handle_commands.Goals as goal

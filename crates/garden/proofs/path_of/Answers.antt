@@ -1,7 +1,7 @@
 use mathlib.Core.Path.{◌≡◌}
 use mathlib.Core.Bool.{true}
 use native.Mathlib.Omega.{arith}
-use Rattle.words.specs.laws.Tests.{failed, passed}
+use Rattle.words.proofs.Theorems.Tests.{failed, passed}
 use Rattle.garden.specs.Garden.{prefix_words, shadow_words, good_pairs}
 use Rattle.garden.proofs.Commands.{part_of, path-short, path-cut, prefix-bad, shadow-bad, path-is}
 use Rattle.garden.proofs.path_of.Goals as goal

@@ -1,6 +1,6 @@
 use native.Mathlib.Omega.{arith}
 use lib.ListN.{length}
-use Rattle.package.specs.laws.Writes.{Fine}
+use Rattle.package.proofs.Theorems.Writes.{Fine}
 use Rattle.package.proofs.Writing.{fine, composed-refused, composed-written}
 use Rattle.package.proofs.compose.Goals as goal
 

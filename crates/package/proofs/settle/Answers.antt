@@ -1,5 +1,5 @@
 use mathlib.Core.Bool.{true, false}
-use Rattle.words.specs.laws.Tests.{failed, passed}
+use Rattle.words.proofs.Theorems.Tests.{failed, passed}
 use Rattle.package.proofs.Reading.{said, settled-scan, short-rules, short-words, rules-fault, settled-refused, settled-read}
 use Rattle.package.proofs.settle.Goals as goal
 

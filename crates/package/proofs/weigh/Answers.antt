@@ -1,8 +1,8 @@
 use mathlib.Core.Path.{◌≡◌, refl, sym, ◌∙◌}
 use mathlib.Core.Bool.{true}
-use Rattle.words.specs.laws.Tests.{failed, passed}
+use Rattle.words.proofs.Theorems.Tests.{failed, passed}
 use Rattle.rules.specs.Rules.{rules_good}
-use Rattle.rules.specs.laws.Words.{rules-good}
+use Rattle.rules.proofs.Theorems.Words.{rules-good}
 use Rattle.package.proofs.Writing.{Statements, statements-are, weighed-bad, weighed-cut, weighed-long, weighed-tight, weighed-fine}
 use Rattle.package.proofs.weigh.Goals as goal
 

@@ -1,7 +1,7 @@
 use mathlib.Core.Path.{◌≡◌, refl, ◌∙◌}
 use native.Mathlib.Omega.{arith}
 use lib.ListN.{length-set}
-use Rattle.rows.specs.laws.Put.{cleared-none, cleared_more}
+use Rattle.rows.proofs.Theorems.Put.{cleared-none, cleared_more}
 use Rattle.rows.proofs.clear_last.Goals as goal
 
 pub loop-row-init : goal.loop-row-init

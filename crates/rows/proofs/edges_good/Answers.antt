@@ -5,10 +5,10 @@ use mathlib.Core.Bool.{true, false}
 use native.Mathlib.Omega.{arith}
 use borrow.Author.Rules.{rules}
 use lib.ListN.{length, drop}
-use Rattle.words.specs.laws.Tests.{tests, failed, passed}
+use Rattle.words.proofs.Theorems.Tests.{tests, failed, passed}
 use Rattle.rows.specs.Rows.{edge_of, edges_of, precedes, edges_good, good_ends}
 use Rattle.rows.specs.Code.{row_at}
-use Rattle.rows.specs.laws.Lookup.{row_at-length}
+use Rattle.rows.proofs.Theorems.Lookup.{row_at-length}
 use Rattle.rows.proofs.Laws.{row-part, table_step, check-end, ends-bad, order-bad, row-bad, row-passed, pair_at, pairs_end, pairs-more, pairs-bad}
 use Rattle.rows.proofs.edges_good.Goals as goal
 

@@ -1,7 +1,7 @@
 use native.Mathlib.Omega.{arith}
 use mathlib.Core.Path.{sym, ◌∙◌}
 use Rattle.rows.specs.Rows.{good_ends}
-use Rattle.words.specs.laws.Tests.{tests, failed, passed}
+use Rattle.words.proofs.Theorems.Tests.{tests, failed, passed}
 use Rattle.rows.proofs.good_ends.Goals as goal
 
 pub overflow_cast-from : goal.overflow_cast-from

@@ -1,6 +1,6 @@
 use borrow.Author.Rules.{rules}
 use Rattle.rows.proofs.Laws.{nodes-step, nodes-end}
-use Rattle.words.specs.laws.Tests.{tests}
+use Rattle.words.proofs.Theorems.Tests.{tests}
 use borrow.Author.Rules.{rules}
 use Rattle.rows.proofs.good_nodes.Goals as goal
 

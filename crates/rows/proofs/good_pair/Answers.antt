@@ -1,5 +1,5 @@
 use Rattle.rows.specs.Rows.{good_pair}
-use Rattle.words.specs.laws.Tests.{tests}
+use Rattle.words.proofs.Theorems.Tests.{tests}
 use Rattle.rows.proofs.good_pair.Goals as goal
 
 pub returns-then-rule-lt1 : goal.returns-then-rule-lt1

@@ -3,7 +3,7 @@ use native.Mathlib.Omega.{arith}
 use lib.ListN.{get_or, drop}
 use Rattle.rows.specs.Rows.{edge_of}
 use Rattle.rows.specs.Code.{row_at}
-use Rattle.rows.specs.laws.Fair.{reduces-length}
+use Rattle.rows.proofs.Theorems.Fair.{reduces-length}
 use Rattle.rows.proofs.Laws.{word_at}
 use Rattle.rows.proofs.has_reduces.Goals as goal
 

@@ -5,7 +5,7 @@ use native.Mathlib.Omega.{arith}
 use borrow.Author.Rules.{rules}
 use Rattle.rows.specs.Rows.{edge_of, keyed}
 use Rattle.rows.specs.Code.{row_at}
-use Rattle.rows.specs.laws.Lookup.{row_at-length}
+use Rattle.rows.proofs.Theorems.Lookup.{row_at-length}
 use Rattle.rows.proofs.Laws.{row-part, look-row, look-other, look-past}
 use Rattle.rows.proofs.look_up.Goals as goal
 

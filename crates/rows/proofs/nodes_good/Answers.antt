@@ -1,5 +1,5 @@
 use Rattle.rows.specs.Rows.{nodes_good}
-use Rattle.words.specs.laws.Tests.{tests}
+use Rattle.words.proofs.Theorems.Tests.{tests}
 use Rattle.rows.proofs.nodes_good.Goals as goal
 
 pub returns-then-nodes-lt1 : goal.returns-then-nodes-lt1

@@ -2,10 +2,10 @@ use Prim.Native.Nat.{◌*◌}
 use mathlib.Core.Path.{◌≡◌}
 use mathlib.Core.Bool.{true, false}
 use native.Mathlib.Omega.{arith}
-use Rattle.words.specs.laws.Tests.{failed, passed}
+use Rattle.words.proofs.Theorems.Tests.{failed, passed}
 use Rattle.rows.specs.Rows.{edge_of, below}
 use Rattle.rows.specs.Code.{row_at}
-use Rattle.rows.specs.laws.Lookup.{row_at-length}
+use Rattle.rows.proofs.Theorems.Lookup.{row_at-length}
 use Rattle.rows.proofs.Laws.{row-part, place_in, half-lower, half-higher}
 use Rattle.rows.proofs.past.Goals as goal
 

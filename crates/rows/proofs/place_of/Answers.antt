@@ -5,7 +5,7 @@ use native.Mathlib.Omega.{arith}
 use borrow.Author.Rules.{rules}
 use Rattle.rows.specs.Rows.{edge_of, below}
 use Rattle.rows.specs.Code.{row_at}
-use Rattle.rows.specs.laws.Lookup.{row_at-length}
+use Rattle.rows.proofs.Theorems.Lookup.{row_at-length}
 use Rattle.rows.proofs.Laws.{row-part, place_in, half-lower, half-higher}
 use Rattle.rows.proofs.place_of.Goals as goal
 

@@ -1,6 +1,6 @@
 use Prim.Native.Nat.{◌*◌}
 use native.Mathlib.Omega.{arith}
-use Rattle.rows.specs.laws.Lookup.{row_at-length}
+use Rattle.rows.proofs.Theorems.Lookup.{row_at-length}
 use Rattle.rows.proofs.Laws.{row-part}
 use Rattle.rows.proofs.read_row.Goals as goal
 

@@ -1,5 +1,5 @@
 use Rattle.rows.specs.Rows.{root_to_leaf}
-use Rattle.words.specs.laws.Tests.{tests}
+use Rattle.words.proofs.Theorems.Tests.{tests}
 use Rattle.rows.proofs.root_to_leaf.Goals as goal
 
 pub returns-then-row-ne0 : goal.returns-then-row-ne0

@@ -1,5 +1,5 @@
 use Rattle.rows.specs.Rows.{keyed, edge_of}
-use Rattle.words.specs.laws.Tests.{tests}
+use Rattle.words.proofs.Theorems.Tests.{tests}
 use Rattle.rows.proofs.row_is.Goals as goal
 
 pub returns-then-row-from : goal.returns-then-row-from

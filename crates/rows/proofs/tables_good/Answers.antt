@@ -1,5 +1,5 @@
 use Rattle.rows.specs.Rows.{tables_good}
-use Rattle.words.specs.laws.Tests.{tests, failed, passed}
+use Rattle.words.proofs.Theorems.Tests.{tests, failed, passed}
 use Rattle.rows.proofs.tables_good.Goals as goal
 
 pub returns-then-not-nodes_good : goal.returns-then-not-nodes_good

@@ -1,8 +1,8 @@
 use native.Mathlib.Omega.{arith}
 use borrow.Author.Rules.{rules}
-use Rattle.words.specs.laws.Tests.{tests}
+use Rattle.words.proofs.Theorems.Tests.{tests}
 use Rattle.rules.specs.Rules.{absent}
-use Rattle.rules.specs.laws.Words.{GoodItem, good-item, absent-step, variables-end}
+use Rattle.rules.proofs.Theorems.Words.{GoodItem, good-item, absent-step, variables-end}
 use Rattle.rules.proofs.absent.Goals as goal
 
 pub loop-i-init : goal.loop-i-init

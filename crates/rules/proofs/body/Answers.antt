@@ -4,7 +4,7 @@ use native.Mathlib.Omega.{arith}
 use lib.ListN.{length}
 use Rattle.rules.specs.Rules.{Stretch, cut}
 use Rattle.rules.specs.Code.{word_bytes}
-use Rattle.rules.specs.laws.Words.{body-inside}
+use Rattle.rules.proofs.Theorems.Words.{body-inside}
 use Rattle.rules.proofs.body.Goals as goal
 
 pub slice_bounds-result-end : goal.slice_bounds-result-end

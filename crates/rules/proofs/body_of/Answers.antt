@@ -1,5 +1,5 @@
 use native.Mathlib.Omega.{arith}
-use Rattle.rules.specs.laws.Words.{good-rule}
+use Rattle.rules.proofs.Theorems.Words.{good-rule}
 use Rattle.rules.proofs.body_of.Goals as goal
 
 pub size_of-size-requires : goal.size_of-size-requires

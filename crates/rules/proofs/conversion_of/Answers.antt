@@ -1,6 +1,6 @@
 use mathlib.Core.Path.{sym}
 use native.Mathlib.Omega.{arith}
-use Rattle.rules.specs.laws.Words.{GoodRule, good-rule, source-long, source-con, source-slot}
+use Rattle.rules.proofs.Theorems.Words.{GoodRule, good-rule, source-long, source-con, source-slot}
 use Rattle.rules.proofs.conversion_of.Goals as goal
 
 pub bounds-s-1 : goal.bounds-s-1

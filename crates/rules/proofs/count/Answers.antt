@@ -2,9 +2,9 @@ use mathlib.Core.Path.{◌≡◌}
 use native.Mathlib.Omega.{arith}
 use borrow.Author.Rules.{rules}
 use lib.ListN.{drop, length-drop}
-use Rattle.words.specs.laws.Parts.{part-all}
+use Rattle.words.proofs.Theorems.Parts.{part-all}
 use Rattle.rules.specs.Rules.{size_of}
-use Rattle.rules.specs.laws.Words.{Here, ahead-start, ahead-here, ahead-end, rules-most}
+use Rattle.rules.proofs.Theorems.Words.{Here, ahead-start, ahead-here, ahead-end, rules-most}
 use Rattle.rules.proofs.Laws.{part-size-of}
 use Rattle.rules.proofs.count.Goals as goal
 

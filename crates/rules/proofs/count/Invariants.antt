@@ -1,6 +1,6 @@
 use Prim.Native.Nat.{◌≤◌, ◌-◌}
 use lib.ListN.{length}
-use Rattle.rules.specs.laws.Words.{Ahead}
+use Rattle.rules.proofs.Theorems.Words.{Ahead}
 use Rattle.rules.proofs.count.Given as goal
 
 abbrev pub invariant-loop-at : goal.invariant-loop-at

@@ -2,10 +2,10 @@ use Prim.Native.Nat.{◌+◌}
 use mathlib.Core.Path.{sym, ◌∙◌}
 use native.Mathlib.Omega.{arith}
 use borrow.Author.Rules.{rules}
-use Rattle.words.specs.laws.Parts.{part-all}
-use Rattle.words.specs.laws.Tests.{failed, passed}
+use Rattle.words.proofs.Theorems.Parts.{part-all}
+use Rattle.words.proofs.Theorems.Tests.{failed, passed}
 use Rattle.rules.specs.Rules.{item_width, distinct}
-use Rattle.rules.specs.laws.Words.{GoodItem, good-item, variable, distinct-con, distinct-slot, variables-end}
+use Rattle.rules.proofs.Theorems.Words.{GoodItem, good-item, variable, distinct-con, distinct-slot, variables-end}
 use Rattle.rules.proofs.distinct.Goals as goal
 
 pub loop-i-init : goal.loop-i-init

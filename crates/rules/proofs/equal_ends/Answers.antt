@@ -1,4 +1,4 @@
-use Rattle.words.specs.laws.Tests.{tests}
+use Rattle.words.proofs.Theorems.Tests.{tests}
 use Rattle.rules.specs.Rules.{equal_ends}
 use Rattle.rules.proofs.equal_ends.Goals as goal
 

@@ -3,7 +3,7 @@ use native.Mathlib.Omega.{arith}
 use lib.ListN.{get_or}
 use Rattle.words.specs.Limits.{most_rules}
 use Rattle.rules.specs.Code.{Starts, mark}
-use Rattle.rules.specs.laws.Words.{words-most}
+use Rattle.rules.proofs.Theorems.Words.{words-most}
 use Rattle.rules.proofs.Index.{found-by}
 use Rattle.rules.proofs.find_rule.Goals as goal
 

@@ -1,4 +1,4 @@
-use Rattle.words.specs.laws.Tests.{failed, passed}
+use Rattle.words.proofs.Theorems.Tests.{failed, passed}
 use Rattle.rules.specs.Rules.{good_body}
 use Rattle.rules.proofs.good_body.Goals as goal
 

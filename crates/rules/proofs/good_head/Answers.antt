@@ -1,5 +1,5 @@
 use Rattle.rules.specs.Rules.{good_head}
-use Rattle.words.specs.laws.Tests.{tests, failed, passed}
+use Rattle.words.proofs.Theorems.Tests.{tests, failed, passed}
 use Rattle.rules.proofs.good_head.Goals as goal
 
 pub returns-then-res-provable : goal.returns-then-res-provable

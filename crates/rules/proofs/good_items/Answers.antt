@@ -1,6 +1,6 @@
 use borrow.Author.Rules.{rules}
-use Rattle.words.specs.laws.Tests.{tests, failed, passed}
-use Rattle.rules.specs.laws.Words.{items-good-end, items-good-odd, items-good-step}
+use Rattle.words.proofs.Theorems.Tests.{tests, failed, passed}
+use Rattle.rules.proofs.Theorems.Words.{items-good-end, items-good-odd, items-good-step}
 use Rattle.rules.proofs.good_items.Goals as goal
 
 pub returns-then-body-i-lt-ITEM_WIDTH : goal.returns-then-body-i-lt-ITEM_WIDTH

@@ -1,7 +1,7 @@
 use mathlib.Core.Path.{◌≡◌}
 use mathlib.Core.Bool.{true}
 use lib.ListN.{get_or}
-use Rattle.words.specs.laws.Tests.{tests, failed, passed}
+use Rattle.words.proofs.Theorems.Tests.{tests, failed, passed}
 use Rattle.rules.specs.Rules.{good_rule, good_head, good_body, body_words}
 use Rattle.rules.proofs.good_rule.Goals as goal
 

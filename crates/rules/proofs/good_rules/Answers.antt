@@ -1,7 +1,7 @@
 use native.Mathlib.Omega.{arith}
 use borrow.Author.Rules.{rules}
 use lib.ListN.{drop, length-drop}
-use Rattle.rules.specs.laws.Words.{good-rule, good-end, good_none, good-step}
+use Rattle.rules.proofs.Theorems.Words.{good-rule, good-end, good_none, good-step}
 use Rattle.rules.proofs.Laws.{part-bad, part-size}
 use Rattle.rules.proofs.good_rules.Goals as goal
 

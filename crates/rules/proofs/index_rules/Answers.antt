@@ -3,9 +3,9 @@ use mathlib.Core.Path.{◌≡◌, refl, ◌∙◌}
 use native.Mathlib.Omega.{arith}
 use lib.ListN.{length, drop, length-drop, length-set}
 use Rattle.words.specs.Limits.{most_rules}
-use Rattle.words.specs.laws.Parts.{part-all}
+use Rattle.words.proofs.Theorems.Parts.{part-all}
 use Rattle.rules.specs.Rules.{size_of, slots, rule_of}
-use Rattle.rules.specs.laws.Words.{Here, ahead-end, rules-most, words-most}
+use Rattle.rules.proofs.Theorems.Words.{Here, ahead-end, rules-most, words-most}
 use Rattle.rules.proofs.Laws.{part-size-of}
 use Rattle.rules.proofs.Index.{marking-none, marking-here, marking-more, few}
 use Rattle.rules.proofs.index_rules.Goals as goal

@@ -2,7 +2,7 @@ use Prim.Native.Nat.{◌+◌, ◌*◌, ◌<◌}
 use native.Mathlib.Omega.{arith}
 use lib.ListN.{length}
 use Rattle.rules.specs.Rules.{item_width}
-use Rattle.rules.specs.laws.Words.{item-within, item-con, item-slot}
+use Rattle.rules.proofs.Theorems.Words.{item-within, item-con, item-slot}
 use Rattle.rules.proofs.item_in.Goals as goal
 
 pub overflow_mul-at : goal.overflow_mul-at

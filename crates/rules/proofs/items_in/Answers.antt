@@ -1,5 +1,5 @@
 use mathlib.Core.Path.{sym}
-use Rattle.rules.specs.laws.Words.{items-count}
+use Rattle.rules.proofs.Theorems.Words.{items-count}
 use Rattle.rules.proofs.items_in.Goals as goal
 
 pub returns : goal.returns

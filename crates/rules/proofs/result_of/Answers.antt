@@ -1,5 +1,5 @@
 use native.Mathlib.Omega.{arith}
-use Rattle.rules.specs.laws.Words.{good-rule}
+use Rattle.rules.proofs.Theorems.Words.{good-rule}
 use Rattle.rules.proofs.result_of.Goals as goal
 
 pub bounds-s-0 : goal.bounds-s-0

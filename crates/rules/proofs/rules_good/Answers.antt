@@ -1,5 +1,5 @@
 use Rattle.rules.specs.Rules.{rules_good}
-use Rattle.words.specs.laws.Tests.{tests, failed, passed}
+use Rattle.words.proofs.Theorems.Tests.{tests, failed, passed}
 use Rattle.rules.proofs.rules_good.Goals as goal
 
 pub returns-then-p-l : goal.returns-then-p-l

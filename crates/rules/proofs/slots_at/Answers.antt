@@ -1,5 +1,5 @@
 use native.Mathlib.Omega.{arith}
-use Rattle.words.specs.laws.Parts.{part-all}
+use Rattle.words.proofs.Theorems.Parts.{part-all}
 use Rattle.rules.proofs.Index.{slots-by}
 use Rattle.rules.proofs.slots_at.Goals as goal
 

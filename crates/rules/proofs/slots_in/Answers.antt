@@ -1,6 +1,6 @@
 use native.Mathlib.Omega.{arith}
 use borrow.Author.Rules.{rules}
-use Rattle.rules.specs.laws.Words.{GoodItem, good-item, slots-step, slots_end}
+use Rattle.rules.proofs.Theorems.Words.{GoodItem, good-item, slots-step, slots_end}
 use Rattle.rules.proofs.slots_in.Goals as goal
 use Rattle.rules.proofs.slots_in.Goals.{else-body-i-eq1, then-body-i-eq1}
 

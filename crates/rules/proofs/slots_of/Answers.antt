@@ -1,6 +1,6 @@
 use mathlib.Core.Path.{◌∙◌}
 use native.Mathlib.Omega.{arith}
-use Rattle.rules.specs.laws.Words.{good-rule, body-length}
+use Rattle.rules.proofs.Theorems.Words.{good-rule, body-length}
 use Rattle.rules.proofs.slots_of.Goals as goal
 
 pub slots_in-requires : goal.slots_in-requires

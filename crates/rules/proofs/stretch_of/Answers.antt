@@ -4,11 +4,11 @@ use mathlib.Core.Bool.{true}
 use native.Mathlib.Omega.{arith}
 use lib.ListN.{length, drop}
 use Rattle.words.specs.Limits.{most_items, most_rules}
-use Rattle.words.specs.laws.Tests.{failed, passed}
-use Rattle.words.specs.laws.Parts.{part-all}
+use Rattle.words.proofs.Theorems.Tests.{failed, passed}
+use Rattle.words.proofs.Theorems.Parts.{part-all}
 use Rattle.rules.specs.Rules.{item_width, size_of, rules_good}
 use Rattle.rules.specs.Code.{Starts, Found}
-use Rattle.rules.specs.laws.Words.{rules-good, good-rule, words-most}
+use Rattle.rules.proofs.Theorems.Words.{rules-good, good-rule, words-most}
 use Rattle.rules.proofs.Laws.{part-size-of}
 use Rattle.rules.proofs.stretch_of.Goals as goal
 

@@ -1,5 +1,5 @@
 use Rattle.rules.specs.Rules.{symbol}
-use Rattle.words.specs.laws.Tests.{tests}
+use Rattle.words.proofs.Theorems.Tests.{tests}
 use Rattle.rules.proofs.symbol.Goals as goal
 
 pub returns-then-x-lt1 : goal.returns-then-x-lt1

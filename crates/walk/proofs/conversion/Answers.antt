@@ -3,9 +3,9 @@ use native.Mathlib.Omega.{arith}
 use borrow.Author.Rules.{rules}
 use lib.ListN.{drop, length-drop}
 use Rattle.words.specs.Limits.{most_rules}
-use Rattle.words.specs.laws.Parts.{part-all}
+use Rattle.words.proofs.Theorems.Parts.{part-all}
 use Rattle.rules.specs.Rules.{size_of}
-use Rattle.rules.specs.laws.Words.{Here, ahead-here, rules-most}
+use Rattle.rules.proofs.Theorems.Words.{Here, ahead-here, rules-most}
 use Rattle.walk.proofs.Laws.{trying_start, trying-here, trying-next, trying-end}
 use Rattle.walk.proofs.conversion.Goals as goal
 

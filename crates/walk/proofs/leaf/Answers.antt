@@ -1,5 +1,5 @@
 use native.Mathlib.Omega.{arith}
-use Rattle.words.specs.laws.Parts.{part-all}
+use Rattle.words.proofs.Theorems.Parts.{part-all}
 use Rattle.rules.specs.Code.{Starts}
 use Rattle.walk.proofs.Parts.{leaf-missing, starts-at, is-missing, ready_with, leaf-done, leaf-few, leaf-full}
 use Rattle.walk.proofs.leaf.Goals as goal

@@ -1,4 +1,4 @@
-use Rattle.words.specs.laws.Tests.{tests}
+use Rattle.words.proofs.Theorems.Tests.{tests}
 use Rattle.words.proofs.lesser.Goals as goal
 
 pub returns-then-a-b : goal.returns-then-a-b

@@ -5,10 +5,10 @@ use native.Mathlib.Nat.{sub-zero}
 use borrow.Rule.Slice.PartMut.{put_mid}
 use lib.ListN.{length, drop}
 use lib.Seq.{length-take-le}
-use Rattle.rules.specs.laws.Words.{rules-good}
-use Rattle.rows.specs.laws.Fair.{tables-fair, tables-few}
+use Rattle.rules.proofs.Theorems.Words.{rules-good}
+use Rattle.rows.proofs.Theorems.Fair.{tables-fair, tables-few}
 use Rattle.desk.specs.Code.{asked_many, lent_many}
-use Rattle.desk.specs.laws.Batches.{fits-fails-none}
+use Rattle.desk.proofs.Theorems.Batches.{fits-fails-none}
 use Rattle.desk.proofs.Whole.{few-answers, few-index, tried-refused, tried-accepted, take-few, second-length, three, three-kept, three-long, first_part, second-part, third-length, third-part}
 use Rattle.desk.proofs.many.parse_indexed.Goals as goal
 

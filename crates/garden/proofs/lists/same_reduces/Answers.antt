@@ -1,7 +1,7 @@
 use mathlib.Core.Path.{◌≡◌, refl, sym}
 use lib.ListN.{length}
 use borrow.Author.Rules.{rules}
-use Rattle.words.specs.laws.Tests.{tests}
+use Rattle.words.proofs.Theorems.Tests.{tests}
 use Rattle.garden.proofs.Carried.{same_not, same_step, same_end}
 use Rattle.garden.proofs.lists.same_reduces.Goals as goal
 

@@ -1,6 +1,6 @@
 use native.Mathlib.Omega.{arith}
 use lib.ListN.{length}
-use Rattle.words.specs.laws.Parts.{part-all}
+use Rattle.words.proofs.Theorems.Parts.{part-all}
 use Rattle.garden.proofs.Paths.{never-part, no-shadow, handled-on}
 use Rattle.garden.proofs.path.handle_common_prefixes.Goals as goal
 

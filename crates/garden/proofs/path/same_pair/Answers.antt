@@ -1,4 +1,4 @@
-use Rattle.words.specs.laws.Tests.{tests}
+use Rattle.words.proofs.Theorems.Tests.{tests}
 use Rattle.garden.proofs.path.same_pair.Goals as goal
 
 pub returns-then-prefix-i : goal.returns-then-prefix-i

@@ -1,5 +1,5 @@
 use mathlib.Core.Path.{sym, ◌∙◌}
-use Rattle.words.specs.laws.Tests.{failed, passed}
+use Rattle.words.proofs.Theorems.Tests.{failed, passed}
 use Rattle.garden.proofs.Copying.{kept_same}
 use Rattle.garden.proofs.Taking.{refused-keeps, up-skipped, up_same, up-leaf, up-branch, up-taken}
 use Rattle.garden.proofs.row.take_up.Goals as goal

@@ -4,9 +4,9 @@ use native.Mathlib.Omega.{arith}
 use lib.ListN.{length}
 use Rattle.words.specs.Limits.{most_rules}
 use Rattle.words.specs.Counted.{the_lists}
-use Rattle.rules.specs.laws.Words.{rules-most, words-most}
+use Rattle.rules.proofs.Theorems.Words.{rules-most, words-most}
 use Rattle.package.specs.Code.{package_of}
-use Rattle.package.specs.laws.Lengths.{package-length}
+use Rattle.package.proofs.Theorems.Lengths.{package-length}
 use Rattle.package.proofs.Writing.{few-lists}
 use Rattle.package.proofs.put.needed.Goals as goal
 

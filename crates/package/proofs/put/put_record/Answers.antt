@@ -1,5 +1,5 @@
 use native.Mathlib.Omega.{arith}
-use Rattle.package.specs.laws.Records.{record-length}
+use Rattle.package.proofs.Theorems.Records.{record-length}
 use Rattle.package.proofs.Writing.{record-put}
 use Rattle.package.proofs.put.put_record.Goals as goal
 

@@ -2,7 +2,7 @@ use Prim.Native.Nat.{◌+◌, ◌-◌}
 use mathlib.Core.Path.{◌≡◌}
 use native.Mathlib.Omega.{arith}
 use lib.ListN.{drop, length-take, length-drop}
-use Rattle.words.specs.laws.Parts.{part-all}
+use Rattle.words.proofs.Theorems.Parts.{part-all}
 use Rattle.rules.specs.Rules.{size_of}
 use Rattle.package.proofs.Writing.{RuleHere, rules-start, rule-here, rule-more, rules-done}
 use Rattle.package.proofs.put.put_rules.Goals as goal

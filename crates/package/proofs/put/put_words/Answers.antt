@@ -3,7 +3,7 @@ use mathlib.Core.Path.{◌≡◌}
 use native.Mathlib.Omega.{arith}
 use lib.ListN.{get_or, drop}
 use Rattle.package.specs.Bytes.{bytes_of, word_bytes}
-use Rattle.package.specs.laws.Bytes.{bytes-length, words-bytes}
+use Rattle.package.proofs.Theorems.Bytes.{bytes-length, words-bytes}
 use Rattle.package.proofs.Writing.{left-start, left-more, left-done, words_left, words-none}
 use Rattle.package.proofs.put.put_words.Goals as goal
 

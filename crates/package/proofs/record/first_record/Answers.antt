@@ -3,10 +3,10 @@ use native.Mathlib.Omega.{arith}
 use lib.ListN.{length, length-drop}
 use Prim.Native.Nat.{◌+◌, ◌≤◌}
 use Rattle.words.specs.Outcome.{first_fault}
-use Rattle.words.specs.laws.Tests.{tests, failed, passed}
-use Rattle.words.specs.laws.Parts.{part-all}
+use Rattle.words.proofs.Theorems.Tests.{tests, failed, passed}
+use Rattle.words.proofs.Theorems.Parts.{part-all}
 use Rattle.package.specs.Package.{kind_of}
-use Rattle.package.specs.laws.Records.{Fits, whole-fits}
+use Rattle.package.proofs.Theorems.Records.{Fits, whole-fits}
 use Rattle.package.proofs.Heads.{kind-is}
 use Rattle.package.proofs.record.first_record.Goals as goal
 

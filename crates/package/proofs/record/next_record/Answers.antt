@@ -1,6 +1,6 @@
 use mathlib.Core.Path.{sym, ◌∙◌}
 use lib.ListN.{drop}
-use Rattle.words.specs.laws.Tests.{failed, passed}
+use Rattle.words.proofs.Theorems.Tests.{failed, passed}
 use Rattle.package.proofs.Heads.{next-refused, next-ordered, next-disordered}
 use Rattle.package.proofs.record.next_record.Goals as goal
 

@@ -2,7 +2,7 @@ use native.Mathlib.Nat.{mul-le-mul_right}
 use native.Mathlib.Omega.{arith}
 use borrow.Author.Rules.{rules}
 use Prim.Native.Nat.{◌*◌, ◌≤◌}
-use Rattle.words.specs.laws.Tests.{tests}
+use Rattle.words.proofs.Theorems.Tests.{tests}
 use Rattle.rules.specs.Rules.{item_width}
 use Rattle.package.specs.Package.{rule_sized}
 use Rattle.package.proofs.Heads.{rule-items}

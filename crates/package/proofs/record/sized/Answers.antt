@@ -1,4 +1,4 @@
-use Rattle.words.specs.laws.Tests.{tests}
+use Rattle.words.proofs.Theorems.Tests.{tests}
 use Rattle.package.specs.Package.{sized}
 use Rattle.package.proofs.record.sized.Goals as goal
 

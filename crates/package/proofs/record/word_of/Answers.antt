@@ -1,6 +1,6 @@
 use native.Mathlib.Omega.{arith}
 use mathlib.Core.Path.{sym}
-use Rattle.package.specs.laws.Bytes.{word-is}
+use Rattle.package.proofs.Theorems.Bytes.{word-is}
 use Rattle.package.proofs.record.word_of.Goals as goal
 
 pub overflow_cast-low : goal.overflow_cast-low

@@ -3,9 +3,9 @@ use borrow.Author.Rules.{rules}
 use Prim.Native.Nat.{◌*◌}
 use lib.ListN.{length-drop}
 use lib.Seq.{paste-zero}
-use Rattle.words.specs.laws.Parts.{part-all}
+use Rattle.words.proofs.Theorems.Parts.{part-all}
 use Rattle.package.specs.Bytes.{words_of}
-use Rattle.package.specs.laws.Bytes.{words-length}
+use Rattle.package.proofs.Theorems.Bytes.{words-length}
 use Rattle.package.proofs.Reading.{words_more, words-put}
 use Rattle.package.proofs.scan.put_words.Goals as goal
 

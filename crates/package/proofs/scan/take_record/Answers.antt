@@ -1,5 +1,5 @@
 use Rattle.package.specs.Bytes.{words_of}
-use Rattle.package.specs.laws.Records.{typecodes-sized, put-nothing}
+use Rattle.package.proofs.Theorems.Records.{typecodes-sized, put-nothing}
 use Rattle.package.proofs.scan.take_record.Goals as goal
 
 pub take_typecodes-requires : goal.take_typecodes-requires

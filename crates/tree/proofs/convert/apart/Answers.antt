@@ -1,5 +1,5 @@
 use mathlib.Core.Path.{sym, ◌∙◌}
-use Rattle.words.specs.laws.Tests.{tests}
+use Rattle.words.proofs.Theorems.Tests.{tests}
 use Rattle.tree.proofs.convert.apart.Goals as goal
 
 pub returns-then-n-m : goal.returns-then-n-m

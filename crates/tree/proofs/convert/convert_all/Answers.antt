@@ -1,7 +1,7 @@
 use Rattle.tree.specs.Code.{room_of, grown_of}
-use Rattle.rules.specs.laws.Words.{rules-most, ahead-start, ahead-here}
+use Rattle.rules.proofs.Theorems.Words.{rules-most, ahead-start, ahead-here}
 use Rattle.words.specs.Limits.{most_rules}
-use Rattle.words.specs.laws.Parts.{part-all}
+use Rattle.words.proofs.Theorems.Parts.{part-all}
 use lib.ListN.{length-drop}
 use mathlib.Core.Path.{refl}
 use native.Mathlib.Omega.{arith}

@@ -4,7 +4,7 @@ use Rattle.words.specs.Numbers.{Fault}
 use Rattle.words.specs.Outcome.{Res}
 use Rattle.tree.specs.Grow.{Grown, convert_all}
 use Rattle.tree.specs.Code.{room_of, grown_of}
-use Rattle.rules.specs.laws.Words.{Ahead}
+use Rattle.rules.proofs.Theorems.Words.{Ahead}
 use Rattle.rules.specs.Rules.{the_rules}
 use lib.ListN.{length, drop}
 use Prim.Native.Nat.{ℕ, ◌+◌, ◌-◌, ◌≤◌}

@@ -1,4 +1,4 @@
-use Rattle.words.specs.laws.Tests.{failed, passed}
+use Rattle.words.proofs.Theorems.Tests.{failed, passed}
 use Rattle.rules.specs.Code.{item_is}
 use Rattle.tree.proofs.Placing.{inner-leaf, inner_made, inner-follows}
 use Rattle.tree.proofs.Laws.{row-readable}

@@ -1,4 +1,4 @@
-use Rattle.words.specs.laws.Tests.{failed, passed}
+use Rattle.words.proofs.Theorems.Tests.{failed, passed}
 use Rattle.rules.specs.Code.{item_is}
 use Rattle.tree.proofs.Placing.{last_leaf, last-there, last_made}
 use Rattle.tree.proofs.place.place_last.Goals as goal

@@ -1,4 +1,4 @@
-use Rattle.rules.specs.laws.Words.{body-count}
+use Rattle.rules.proofs.Theorems.Words.{body-count}
 use Rattle.tree.proofs.Placing.{rule-skipped, rule-placed}
 use Rattle.tree.proofs.place.place_rule.Goals as goal
 

@@ -1,6 +1,6 @@
 use lib.ListN.{length-drop}
 use native.Mathlib.Omega.{arith}
-use Rattle.words.specs.laws.Parts.{part-all}
+use Rattle.words.proofs.Theorems.Parts.{part-all}
 use Rattle.tree.proofs.Placing.{rest-start, rest-here, rest-few, rest_more, rest-refused, rest_end}
 use Rattle.tree.proofs.place.place_rules.Goals as goal
 
