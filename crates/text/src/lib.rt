@@ -1,7 +1,8 @@
 // The text that a program reads and writes: its lines, the fields of a line, and the words of a field.
 #![tactic(auto)]
 
-ghost use Rattle.std.specs.Prelude.{◌≤◌, length, IfOk};
+ghost use Rattle.std.specs.Prelude.{◌≤◌, ◌<◌, length, take, IfOk};
+ghost use Rattle.std.specs.Io.KnownBytes.{Consumes, IsAtEnd};
 
 use std::io;
 use std::io::Read;
@@ -13,7 +14,9 @@ pub const MOST: usize = 16384;
 
 // Reads until the slice is full or the input ends; how many bytes stand at its front then.
 pub fn read_full<R: Read>(from: &mut R, to: &mut [u8]) -> io::Result<usize>
-    ensures { IfOk result (λ n. n ≤ length to.new) }
+    ensures within { IfOk result (λ n. n ≤ length to.new) }
+    ensures taken { IfOk result (λ n. Consumes (R.remaining from.old) (R.remaining from.new) (take n to.new)) }
+    ensures whole { IfOk result (λ n. n < length to.new → IsAtEnd (R.remaining from.new)) }
 {
     let mut done = 0;
     while done < to.len() {
