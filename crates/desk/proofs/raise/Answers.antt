@@ -1,8 +1,8 @@
+use mathlib.Core.Path.{sym, ◌∙◌}
 use mathlib.Core.Path.{◌≡◌, refl}
 use mathlib.Core.Bool.{true}
 use lib.ListN.{length}
 use Rattle.words.specs.Numbers.{bad_rules}
-use Rattle.words.proofs.Theorems.Tests.{failed, passed}
 use Rattle.rules.specs.Rules.{rules_good}
 use native.Mathlib.Omega.{arith}
 use Rattle.rules.proofs.Theorems.Words.{rules-good}
@@ -10,11 +10,11 @@ use Rattle.desk.proofs.Laws.{raised-no, build-bad, raised-on, raised-refused, ro
 use Rattle.desk.proofs.raise.Goals as goal
 
 pub returns-then-not-rules_good : goal.returns-then-not-rules_good
-returns-then-not-rules_good c = raised-no _ bad_rules _ _ _ _ _ (build-bad _ _ _ _ _ _ _ (failed c.rules_good.ensures c.if-not-rules_good.true-raw)) refl refl
+returns-then-not-rules_good c = raised-no _ bad_rules _ _ _ _ _ (build-bad _ _ _ _ _ _ _ (sym c.rules_good.ensures ∙ c.if-not-rules_good.true)) refl refl
 
 pub build-requires : goal.build-requires
 build-requires c =
-    let good : rules_good c.args.codes.provable.0 c.args.codes.logic.0 c.args.rules.now ≡ true = passed c.rules_good.ensures c.if-not-rules_good.false-raw in
+    let good : rules_good c.args.codes.provable.0 c.args.codes.logic.0 c.args.rules.now ≡ true = sym c.rules_good.ensures ∙ c.if-not-rules_good.false in
     let f = room_fits _ _ _ c.build_room-room.ensures in
     (rules-good _ _ _ good, record { nodes = f.nodes-in; few = f.nodes-few; edges = f.edges-in }, f.edges_few)
 
@@ -32,10 +32,10 @@ overflow_cast-result-in-On c =
 
 pub returns-in-On : goal.returns-in-On
 returns-in-On c =
-    let good : rules_good c.args.codes.provable.0 c.args.codes.logic.0 c.args.rules.now ≡ true = passed c.rules_good.ensures c.if-not-rules_good.false-raw in
+    let good : rules_good c.args.codes.provable.0 c.args.codes.logic.0 c.args.rules.now ≡ true = sym c.rules_good.ensures ∙ c.if-not-rules_good.false in
     raised-on _ _ _ _ _ _ _ good _ c.build_room-room.ensures _ _ _ c.build.auto.nodes c.build.auto.edges c.build.ensures _ c.in-On.is
 
 pub returns-in-Refused : goal.returns-in-Refused
 returns-in-Refused c =
-    let good : rules_good c.args.codes.provable.0 c.args.codes.logic.0 c.args.rules.now ≡ true = passed c.rules_good.ensures c.if-not-rules_good.false-raw in
+    let good : rules_good c.args.codes.provable.0 c.args.codes.logic.0 c.args.rules.now ≡ true = sym c.rules_good.ensures ∙ c.if-not-rules_good.false in
     raised-refused _ _ _ _ _ _ _ good _ c.build_room-room.ensures _ _ _ c.build.auto.nodes c.build.auto.edges c.build.ensures _ _ c.in-Refused.is c.fault_number.ensures

@@ -1,6 +1,7 @@
+use mathlib.Core.Path.{sym, ◌∙◌}
 use native.Mathlib.Omega.{arith}
 use borrow.Author.Rules.{rules}
-use Rattle.words.proofs.Theorems.Tests.{tests, failed, passed}
+use Rattle.words.proofs.Theorems.Tests.{tests}
 use Rattle.garden.proofs.Theorems.Pairs.{good-end, good-step, pairs-odd}
 use Rattle.garden.proofs.good_pairs.Goals as goal
 
@@ -20,7 +21,7 @@ pub returns-then-not-symbol : goal.returns-then-not-symbol
 returns-then-not-symbol c =
     let l = c.loop-i in
     let ws = c.args.ws.now in
-    search (tests, ← l.invariant.2, good-step ws l.i (omega (arith, l.invariant.1, c.if-ws-ne0.false, c.loop-i-test.true)), failed c.symbol.ensures c.if-not-symbol.true-raw)
+    search (tests, ← l.invariant.2, good-step ws l.i (omega (arith, l.invariant.1, c.if-ws-ne0.false, c.loop-i-test.true)), sym c.symbol.ensures ∙ c.if-not-symbol.true)
 
 pub loop-i-preserved : goal.loop-i-preserved
 loop-i-preserved c =
@@ -30,7 +31,7 @@ loop-i-preserved c =
     let t = c.loop-i-test.true in (
       omega (arith, l.invariant.1, h, t),
       omega (arith, l.invariant.1),
-      search (tests, ← l.invariant.2, good-step ws l.i (omega (arith, l.invariant.1, h, t)), passed c.symbol.ensures c.if-not-symbol.false-raw),
+      search (tests, ← l.invariant.2, good-step ws l.i (omega (arith, l.invariant.1, h, t)), sym c.symbol.ensures ∙ c.if-not-symbol.false),
     )
 
 pub returns : goal.returns

@@ -1,7 +1,7 @@
+use mathlib.Core.Path.{sym, ◌∙◌}
 use mathlib.Core.Path.{◌≡◌}
 use mathlib.Core.Bool.{true}
 use native.Mathlib.Omega.{arith}
-use Rattle.words.proofs.Theorems.Tests.{failed, passed}
 use Rattle.garden.specs.Garden.{prefix_words, shadow_words, good_pairs}
 use Rattle.garden.proofs.Commands.{part_of, path-short, path-cut, prefix-bad, shadow-bad, path-is}
 use Rattle.garden.proofs.path_of.Goals as goal
@@ -33,17 +33,17 @@ returns-then-ws-p c = (tt, path-cut c.args.ws.now c.requires c.if-ws-lt3.false c
 pub returns-then-not-good_pairs : goal.returns-then-not-good_pairs
 returns-then-not-good_pairs c =
     let ws = c.args.ws.now in
-    (tt, prefix-bad ws c.requires c.if-ws-lt3.false c.if-ws-p.false (rw part_of at (failed c.good_pairs.ensures c.if-not-good_pairs.true-raw)))
+    (tt, prefix-bad ws c.requires c.if-ws-lt3.false c.if-ws-p.false (rw part_of at (sym c.good_pairs.ensures ∙ c.if-not-good_pairs.true)))
 
 pub returns-then-not-good_pairs-2 : goal.returns-then-not-good_pairs-2
 returns-then-not-good_pairs-2 c =
-    let prefix : (let ws = c.args.ws.now in good_pairs (prefix_words ws) ≡ true) = rw part_of at (passed c.good_pairs.ensures c.if-not-good_pairs.false-raw) in
+    let prefix : (let ws = c.args.ws.now in good_pairs (prefix_words ws) ≡ true) = rw part_of at (sym c.good_pairs.ensures ∙ c.if-not-good_pairs.false) in
     let ws = c.args.ws.now in
-    (tt, shadow-bad ws c.requires c.if-ws-lt3.false c.if-ws-p.false prefix (rw part_of at (failed c.good_pairs-2.ensures c.if-not-good_pairs-2.true-raw)))
+    (tt, shadow-bad ws c.requires c.if-ws-lt3.false c.if-ws-p.false prefix (rw part_of at (sym c.good_pairs-2.ensures ∙ c.if-not-good_pairs-2.true)))
 
 pub returns : goal.returns
 returns c =
-    let prefix : (let ws = c.args.ws.now in good_pairs (prefix_words ws) ≡ true) = rw part_of at (passed c.good_pairs.ensures c.if-not-good_pairs.false-raw) in
+    let prefix : (let ws = c.args.ws.now in good_pairs (prefix_words ws) ≡ true) = rw part_of at (sym c.good_pairs.ensures ∙ c.if-not-good_pairs.false) in
     let ws = c.args.ws.now in
-    let shadow : good_pairs (shadow_words ws) ≡ true = rw part_of at (passed c.good_pairs-2.ensures c.if-not-good_pairs-2.false-raw) in
+    let shadow : good_pairs (shadow_words ws) ≡ true = rw part_of at (sym c.good_pairs-2.ensures ∙ c.if-not-good_pairs-2.false) in
     ((c.if-ws-p.false, prefix, shadow), path-is ws c.requires c.if-ws-lt3.false c.if-ws-p.false prefix shadow)

@@ -1,5 +1,5 @@
+use mathlib.Core.Path.{sym, ◌∙◌}
 use mathlib.Core.Bool.{true, false}
-use Rattle.words.proofs.Theorems.Tests.{failed, passed}
 use Rattle.package.proofs.Reading.{said, settled-scan, short-rules, short-words, rules-fault, settled-refused, settled-read}
 use Rattle.package.proofs.settle.Goals as goal
 
@@ -26,11 +26,11 @@ returns-then-not-rules_good c =
     let bs = c.args.bytes.now in
     let g = said bs c.scan-p.result c.scan-p.new.rules c.scan-p.new.statements c.scan-p.ensures c.if-p-ne-ACCEPTED.false in
     rw (← c.scan-p.auto.rules, ← c.scan-p.auto.statements) (settled-refused bs c.scan-p.result c.scan-p.new.rules c.scan-p.new.statements 9 c.refused-then-not-rules_good.result g
-    (rules-fault bs c.scan-p.result c.scan-p.new.rules c.scan-p.new.statements false g c.if-rules-n.false c.if-statements-p.false (failed c.rules_good.ensures c.if-not-rules_good.true-raw)) c.refused-then-not-rules_good.ensures)
+    (rules-fault bs c.scan-p.result c.scan-p.new.rules c.scan-p.new.statements false g c.if-rules-n.false c.if-statements-p.false (sym c.rules_good.ensures ∙ c.if-not-rules_good.true)) c.refused-then-not-rules_good.ensures)
 
 pub returns : goal.returns
 returns c =
     let bs = c.args.bytes.now in
     let g = said bs c.scan-p.result c.scan-p.new.rules c.scan-p.new.statements c.scan-p.ensures c.if-p-ne-ACCEPTED.false in
     rw (← c.scan-p.auto.rules, ← c.scan-p.auto.statements) (settled-read bs c.scan-p.result c.scan-p.new.rules c.scan-p.new.statements g c.if-rules-n.false c.if-statements-p.false
-    (rules-fault bs c.scan-p.result c.scan-p.new.rules c.scan-p.new.statements true g c.if-rules-n.false c.if-statements-p.false (passed c.rules_good.ensures c.if-not-rules_good.false-raw)))
+    (rules-fault bs c.scan-p.result c.scan-p.new.rules c.scan-p.new.statements true g c.if-rules-n.false c.if-statements-p.false (sym c.rules_good.ensures ∙ c.if-not-rules_good.false)))

@@ -5,7 +5,7 @@ use mathlib.Core.Bool.{true, false}
 use native.Mathlib.Omega.{arith}
 use borrow.Author.Rules.{rules}
 use lib.ListN.{length, drop}
-use Rattle.words.proofs.Theorems.Tests.{tests, failed, passed}
+use Rattle.words.proofs.Theorems.Tests.{tests}
 use Rattle.rows.specs.Rows.{edge_of, edges_of, precedes, edges_good, good_ends}
 use Rattle.rows.specs.Code.{row_at}
 use Rattle.rows.proofs.Theorems.Lookup.{row_at-length}
@@ -36,7 +36,7 @@ loop-k-preserved c =
     let rs = c.args.rules in
     let r = c.rows in
     let p = c.loop-k in
-    let good : pair_at rs ws (16 * r.row) p.k ≡ true = passed {s = pair_at rs ws (16 * r.row) p.k} c.good_pair.ensures c.if-not-good_pair.false-raw in
+    let good : pair_at rs ws (16 * r.row) p.k ≡ true = sym c.good_pair.ensures ∙ c.if-not-good_pair.false in
     (search rules, search rules, pairs-more ws rs (16 * r.row) p.k (search rules) good ∙ p.invariant.2)
 
 pub rows-preserved : goal.rows-preserved
@@ -46,8 +46,8 @@ rows-preserved c =
     let rs = c.args.rules in
     let r = c.rows in
     let p = c.loop-k in
-    let h : good_ends ns (row_at ws r.row) ≡ true = passed (rw (row-part ws (16 * r.row)) at c.good_ends.ensures) c.if-not-good_ends.false-raw in
-    let o : precedes (edge_of (row_at ws r.row)) (drop (r.row + 1) (edges_of ws)) ≡ true = passed c.precedes.ensures c.if-not-precedes.false-raw in
+    let h : good_ends ns (row_at ws r.row) ≡ true = sym (rw (row-part ws (16 * r.row)) at c.good_ends.ensures) ∙ c.if-not-good_ends.false in
+    let o : precedes (edge_of (row_at ws r.row)) (drop (r.row + 1) (edges_of ws)) ≡ true = sym c.precedes.ensures ∙ c.if-not-precedes.false in
     let good = sym p.invariant.2 ∙ pairs_end rs p.k (row_at ws r.row) (search rules) in
     (search rules, search rules, row-passed ns ws rs r.row (search rules) h good o ∙ r.invariant.2)
 
@@ -65,7 +65,7 @@ returns-then-not-good_ends c =
     let ns = c.args.nodes.now in
     let rs = c.args.rules in
     let r = c.rows in
-    let h : good_ends ns (row_at ws r.row) ≡ false = failed (rw (row-part ws (16 * r.row)) at c.good_ends.ensures) c.if-not-good_ends.true-raw in
+    let h : good_ends ns (row_at ws r.row) ≡ false = sym (rw (row-part ws (16 * r.row)) at c.good_ends.ensures) ∙ c.if-not-good_ends.true in
     sym (table_step ns ws rs (search rules) (search rules) ∙ sym r.invariant.2 ∙ ends-bad ns ws rs r.row (search rules) h)
 
 pub returns-then-not-precedes : goal.returns-then-not-precedes
@@ -74,7 +74,7 @@ returns-then-not-precedes c =
     let ns = c.args.nodes.now in
     let rs = c.args.rules in
     let r = c.rows in
-    let o : precedes (edge_of (row_at ws r.row)) (drop (r.row + 1) (edges_of ws)) ≡ false = failed c.precedes.ensures c.if-not-precedes.true-raw in
+    let o : precedes (edge_of (row_at ws r.row)) (drop (r.row + 1) (edges_of ws)) ≡ false = sym c.precedes.ensures ∙ c.if-not-precedes.true in
     sym (table_step ns ws rs (search rules) (search rules) ∙ sym r.invariant.2 ∙ order-bad ns ws rs r.row (search rules) o)
 
 pub returns-then-not-good_pair : goal.returns-then-not-good_pair
@@ -84,7 +84,7 @@ returns-then-not-good_pair c =
     let rs = c.args.rules in
     let r = c.rows in
     let p = c.loop-k in
-    let h : good_ends ns (row_at ws r.row) ≡ true = passed (rw (row-part ws (16 * r.row)) at c.good_ends.ensures) c.if-not-good_ends.false-raw in
-    let pair : pair_at rs ws (16 * r.row) p.k ≡ false = failed {s = pair_at rs ws (16 * r.row) p.k} c.good_pair.ensures c.if-not-good_pair.true-raw in
+    let h : good_ends ns (row_at ws r.row) ≡ true = sym (rw (row-part ws (16 * r.row)) at c.good_ends.ensures) ∙ c.if-not-good_ends.false in
+    let pair : pair_at rs ws (16 * r.row) p.k ≡ false = sym c.good_pair.ensures ∙ c.if-not-good_pair.true in
     let bad = sym p.invariant.2 ∙ pairs-bad ws rs (16 * r.row) p.k (search rules) pair in
     sym (table_step ns ws rs (search rules) (search rules) ∙ sym r.invariant.2 ∙ row-bad ns ws rs r.row (search rules) h bad)

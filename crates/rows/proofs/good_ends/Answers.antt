@@ -1,7 +1,7 @@
 use native.Mathlib.Omega.{arith}
 use mathlib.Core.Path.{sym, ◌∙◌}
 use Rattle.rows.specs.Rows.{good_ends}
-use Rattle.words.proofs.Theorems.Tests.{tests, failed, passed}
+use Rattle.words.proofs.Theorems.Tests.{tests}
 use Rattle.rows.proofs.good_ends.Goals as goal
 
 pub overflow_cast-from : goal.overflow_cast-from
@@ -21,30 +21,30 @@ returns-then-row-gt1 c = search tests
 
 pub returns-then-not-symbol : goal.returns-then-not-symbol
 unfolding good_ends
-returns-then-not-symbol c = search (tests, failed c.symbol.ensures c.if-not-symbol.true-raw)
+returns-then-not-symbol c = search (tests, sym c.symbol.ensures ∙ c.if-not-symbol.true)
 
 pub returns-then-to-eq0 : goal.returns-then-to-eq0
 unfolding good_ends
-returns-then-to-eq0 c = search (tests, passed c.symbol.ensures c.if-not-symbol.false-raw)
+returns-then-to-eq0 c = search (tests, sym c.symbol.ensures ∙ c.if-not-symbol.false)
 
 pub overflow_cast-to : goal.overflow_cast-to
 overflow_cast-to c = omega (arith, c.type_inv.row 3)
 
 pub returns-then-nodes-to : goal.returns-then-nodes-to
 unfolding good_ends
-returns-then-nodes-to c = search (tests, passed c.symbol.ensures c.if-not-symbol.false-raw)
+returns-then-nodes-to c = search (tests, sym c.symbol.ensures ∙ c.if-not-symbol.false)
 
 pub returns-then-root_to_leaf : goal.returns-then-root_to_leaf
 unfolding good_ends
 returns-then-root_to_leaf c =
-    search (tests, passed c.symbol.ensures c.if-not-symbol.false-raw, sym c.root_to_leaf.ensures ∙ c.if-root_to_leaf.true)
+    search (tests, sym c.symbol.ensures ∙ c.if-not-symbol.false, sym c.root_to_leaf.ensures ∙ c.if-root_to_leaf.true)
 
 pub returns-then-row-gt-MOST_REDUCES : goal.returns-then-row-gt-MOST_REDUCES
 unfolding good_ends
 returns-then-row-gt-MOST_REDUCES c =
-    search (tests, passed c.symbol.ensures c.if-not-symbol.false-raw, sym c.root_to_leaf.ensures ∙ c.if-root_to_leaf.false)
+    search (tests, sym c.symbol.ensures ∙ c.if-not-symbol.false, sym c.root_to_leaf.ensures ∙ c.if-root_to_leaf.false)
 
 pub returns : goal.returns
 unfolding good_ends
 returns c =
-    search (tests, passed c.symbol.ensures c.if-not-symbol.false-raw, sym c.root_to_leaf.ensures ∙ c.if-root_to_leaf.false)
+    search (tests, sym c.symbol.ensures ∙ c.if-not-symbol.false, sym c.root_to_leaf.ensures ∙ c.if-root_to_leaf.false)

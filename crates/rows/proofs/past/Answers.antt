@@ -1,8 +1,8 @@
+use mathlib.Core.Path.{sym, ◌∙◌}
 use Prim.Native.Nat.{◌*◌}
 use mathlib.Core.Path.{◌≡◌}
 use mathlib.Core.Bool.{true, false}
 use native.Mathlib.Omega.{arith}
-use Rattle.words.proofs.Theorems.Tests.{failed, passed}
 use Rattle.rows.specs.Rows.{edge_of, below}
 use Rattle.rows.specs.Code.{row_at}
 use Rattle.rows.proofs.Theorems.Lookup.{row_at-length}
@@ -23,7 +23,7 @@ returns-then-not-row_below c =
     let l = c.loop-i in
     let ws = c.args.edges.now in
     let not_lower : below c.args.from.0 c.args.kind 0 (edge_of (row_at ws l.i)) ≡ false =
-    failed (rw (row-part ws (16 * l.i)) at c.row_below.ensures) c.if-not-row_below.true-raw in
+    sym (rw (row-part ws (16 * l.i)) at c.row_below.ensures) ∙ c.if-not-row_below.true in
     omega (arith, l.invariant, half-higher c.args.from.0 c.args.kind 0 ws l.i c.loop-i-test.true not_lower)
 
 pub loop-i-preserved : goal.loop-i-preserved
@@ -31,7 +31,7 @@ loop-i-preserved c =
     let l = c.loop-i in
     let ws = c.args.edges.now in
     let lower : below c.args.from.0 c.args.kind 0 (edge_of (row_at ws l.i)) ≡ true =
-    passed (rw (row-part ws (16 * l.i)) at c.row_below.ensures) c.if-not-row_below.false-raw in
+    sym (rw (row-part ws (16 * l.i)) at c.row_below.ensures) ∙ c.if-not-row_below.false in
     omega (arith, half-lower c.args.from.0 c.args.kind 0 ws l.i c.loop-i-test.true c.requires.0 lower)
 
 pub returns : goal.returns

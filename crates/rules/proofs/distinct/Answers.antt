@@ -3,7 +3,6 @@ use mathlib.Core.Path.{sym, ◌∙◌}
 use native.Mathlib.Omega.{arith}
 use borrow.Author.Rules.{rules}
 use Rattle.words.proofs.Theorems.Parts.{part-all}
-use Rattle.words.proofs.Theorems.Tests.{failed, passed}
 use Rattle.rules.specs.Rules.{item_width, distinct}
 use Rattle.rules.proofs.Theorems.Words.{GoodItem, good-item, variable, distinct-con, distinct-slot, variables-end}
 use Rattle.rules.proofs.distinct.Goals as goal
@@ -59,7 +58,7 @@ returns-then-not-absent c =
     let item : GoodItem c.args.items.now c.loop-i.i = good-item c.args.items.now c.loop-i.i c.loop-i-test.true c.loop-i.invariant.1 in
     let l = c.loop-i in
     let body = c.args.items.now in
-    let r = rw (part-all body (l.i + item_width)) at (failed c.absent.ensures c.if-not-absent.true-raw) in
+    let r = rw (part-all body (l.i + item_width)) at (sym c.absent.ensures ∙ c.if-not-absent.true) in
     search (← l.invariant.2, distinct-slot body l.i item c.if-items-i-eq1.true, r)
 
 pub loop-i-smaller-else-not-absent : goal.loop-i-smaller-else-not-absent
@@ -73,7 +72,7 @@ loop-i-preserved-else-not-absent c =
     let l = c.loop-i in
     let body = c.args.items.now in
     let it = item in
-    let r = rw (part-all body (l.i + item_width)) at (passed c.absent.ensures c.if-not-absent.false-raw) in
+    let r = rw (part-all body (l.i + item_width)) at (sym c.absent.ensures ∙ c.if-not-absent.false) in
     (omega (arith, it.whole), it.rest, search (← l.invariant.2, distinct-slot body l.i it c.if-items-i-eq1.true, r))
 
 pub loop-i-smaller : goal.loop-i-smaller

@@ -1,5 +1,6 @@
+use mathlib.Core.Path.{sym, ◌∙◌}
 use borrow.Author.Rules.{rules}
-use Rattle.words.proofs.Theorems.Tests.{tests, failed, passed}
+use Rattle.words.proofs.Theorems.Tests.{tests}
 use Rattle.rules.proofs.Theorems.Words.{items-good-end, items-good-odd, items-good-step}
 use Rattle.rules.proofs.good_items.Goals as goal
 
@@ -19,21 +20,21 @@ pub returns-then-not-symbol : goal.returns-then-not-symbol
 returns-then-not-symbol c =
     let l = c.loop-i in
     let body = c.args.body.now in
-    search (tests, ← l.invariant.1, items-good-step body l.i (search rules), failed c.symbol.ensures c.if-not-symbol.true-raw)
+    search (tests, ← l.invariant.1, items-good-step body l.i (search rules), sym c.symbol.ensures ∙ c.if-not-symbol.true)
 
 pub returns-then-not-third : goal.returns-then-not-third
 returns-then-not-third c =
     let l = c.loop-i in
     let body = c.args.body.now in
-    let s = passed c.symbol.ensures c.if-not-symbol.false-raw in
-    search (tests, ← l.invariant.1, items-good-step body l.i (search rules), s, failed c.third.ensures c.if-not-third.true-raw)
+    let s = sym c.symbol.ensures ∙ c.if-not-symbol.false in
+    search (tests, ← l.invariant.1, items-good-step body l.i (search rules), s, sym c.third.ensures ∙ c.if-not-third.true)
 
 pub loop-i-preserved : goal.loop-i-preserved
 loop-i-preserved c =
     let l = c.loop-i in
     let body = c.args.body.now in
-    let s = passed c.symbol.ensures c.if-not-symbol.false-raw in
-    (search rules, search (tests, ← l.invariant.1, items-good-step body l.i (search rules), s, passed c.third.ensures c.if-not-third.false-raw))
+    let s = sym c.symbol.ensures ∙ c.if-not-symbol.false in
+    (search rules, search (tests, ← l.invariant.1, items-good-step body l.i (search rules), s, sym c.third.ensures ∙ c.if-not-third.false))
 
 pub returns : goal.returns
 returns c =

@@ -1,3 +1,5 @@
+use mathlib.Core.Bool.{not}
+use mathlib.Core.Path.{ap}
 use Rattle.walk.proofs.Parts.{finish-few, finish-fails, finish-ends}
 use Rattle.walk.proofs.finish.Goals as goal
 
@@ -10,10 +12,10 @@ pub returns-then-not-check : goal.returns-then-not-check
 returns-then-not-check c =
     let a = c.args in
     finish-fails a.rules.now a.goal.0 a.tokens.now a.trees a.list.now a.work.now c.requires.2
-    c.if-trees-ne1.false c.check.ensures _ c.if-not-check.true-raw
+    c.if-trees-ne1.false c.check.ensures _ (ap not c.if-not-check.true)
 
 pub returns : goal.returns
 returns c =
     let a = c.args in
     finish-ends a.rules.now a.goal.0 a.tokens.now a.trees a.list.now a.work.now c.requires.2
-    c.if-trees-ne1.false c.check.ensures _ c.if-not-check.false-raw
+    c.if-trees-ne1.false c.check.ensures _ (ap not c.if-not-check.false)
