@@ -79,31 +79,28 @@ part-walk q allowance used frames list work part a t = rw (mid_len used (length 
 
 -- ---- the lists that are left
 
--- what stands at a place where lists are left, as the code reads it
-pub record Ahead (ws : List ℕ) (at : ℕ) (rest : List (List ℕ)) : Type 0 where
+-- the first of the lists that are left, as the code reads it
+pub record Ahead (size : ℕ) (after : List ℕ) (rest : List (List ℕ)) : Type 0 where
   pub first : List ℕ
   pub others : List (List ℕ)
   pub are : rest ≡ first ∷ others
-  pub within : at + 1 + get_or ws at 0 ≤ length ws
-  pub part : take (at + 1 + get_or ws at 0 - (at + 1)) (drop (at + 1) ws) ≡ first
-  pub after : drop (at + 1 + get_or ws at 0) ws ≡ counted others
+  pub within : size ≤ length after
+  pub part : take size after ≡ first
+  pub left : drop size after ≡ counted others
 
-ahead : (ws : List ℕ) (at : ℕ) (rest : List (List ℕ)) → drop at ws ≡ counted rest → at < length ws → Ahead ws at rest
+ahead : (size : ℕ) (after : List ℕ) (rest : List (List ℕ)) → size ∷ after ≡ counted rest → Ahead size after rest
 unfolding counted
-ahead ws at [] e h = absurd (let z : length (drop at ws) ≡ 0 = ap length e in omega (arith, length-drop at ws))
-ahead ws at (l ∷ ls) e h =
-    let f : get_or ws at 0 ∷ drop (suc at) ws ≡ length l ∷ (l ++ counted ls) = sym (drop-cons ws at 0 h) ∙ e in
-    let n : get_or ws at 0 ≡ length l = ap (λ (x : List ℕ). get_or x 0 0) f in
-    let r : drop (at + 1) ws ≡ l ++ counted ls = rw (add-one at) (ap (λ (x : List ℕ). drop 1 x) f) in
-    let k : at + 1 + get_or ws at 0 - (at + 1) ≡ length l = omega arith in
-    let m : length (drop (at + 1) ws) ≡ length l + length (counted ls) = ap length r ∙ length-append l (counted ls) in
+ahead size after [] e = absurd (let z : suc (length after) ≡ 0 = ap length e in omega arith)
+ahead size after (l ∷ ls) e =
+    let n : size ≡ length l = ap (λ (x : List ℕ). get_or x 0 0) e in
+    let r : after ≡ l ++ counted ls = ap (λ (x : List ℕ). drop 1 x) e in
     record {
       first = l;
       others = ls;
       are = refl;
-      within = omega (arith, length-drop (at + 1) ws);
-      part = rw (k, r) (take_at l (counted ls) (length l) refl);
-      after = sym (drop-drop (get_or ws at 0) (at + 1) ws) ∙ rw (r, n) (drop_at l (counted ls) (length l) refl);
+      within = rw r (omega (arith, n, length-append l (counted ls)));
+      part = rw (n, r) (take_at l (counted ls) (length l) refl);
+      left = rw (n, r) (drop_at l (counted ls) (length l) refl);
     }
 
 none_left : (rest : List (List ℕ)) → [] ≡ counted rest → rest ≡ []
@@ -118,17 +115,18 @@ whole-lists (no i) e = absurd (false≢true e)
 -- ---- one statement after another
 
 module _ (q : many.Asked) (allowance : ℕ) (s : Lent) (statements : List ℕ) where
-  -- at a place among the statements, with i answer words and n list words used: the walks so far are packed, and the lists left give the others
-  pub record Batching (list answers : List ℕ) (at i n : ℕ) : Type 0 where
+  -- with these words left of the statements, and i answer words and n list words used: the walks so far are packed, and the lists left give
+  -- the others
+  pub record Batching (list answers words : List ℕ) (i n : ℕ) : Type 0 where
     pub done : List Walked
     pub rest : List (List ℕ)
-    pub left : drop at statements ≡ counted rest
+    pub left : words ≡ counted rest
     pub same : done ++ walks_from q allowance s n rest ≡ walks_from q allowance s 0 (the_lists statements)
     pub packed : Packed done n list answers
     pub place : i ≡ answer_width * length done
     pub many : length done + length rest ≡ length (the_lists statements)
 
-  pub batch-start : (list answers : List ℕ) → whole (lists_of statements) ≡ true → Batching list answers 0 0 0
+  pub batch-start : (list answers : List ℕ) → whole (lists_of statements) ≡ true → Batching list answers statements 0 0
   unfolding list_words answer_words
   batch-start list answers e =
       let x = whole-lists (lists_of statements) e in
@@ -142,46 +140,46 @@ module _ (q : many.Asked) (allowance : ℕ) (s : Lent) (statements : List ℕ) w
         many = omega arith;
       }
 
-  module _ (list answers : List ℕ) (at i n : ℕ) (b : Batching list answers at i n) where
-    pub batch-end : length statements ≤ at → Packed (walks_from q allowance s 0 (the_lists statements)) n list answers
+  pub batch-end : (list answers words : List ℕ) (i n : ℕ) → Batching list answers words i n → length words ≡ 0 → Packed (walks_from q allowance s 0 (the_lists statements)) n list answers
+  unfolding walks_from
+  batch-end list answers [] i n b h =
+      let z : b.rest ≡ [] = none_left b.rest b.left in
+      let e : b.done ≡ walks_from q allowance s 0 (the_lists statements) =
+      sym (append-nil b.done) ∙ ap (λ (x : List (List ℕ)). b.done ++ walks_from q allowance s n x) (sym z) ∙ b.same in
+      subst (λ ws. Packed ws n list answers) e b.packed
+  batch-end list answers (w ∷ words) i n b h = absurd (omega arith)
+
+  module _ (list answers : List ℕ) (size : ℕ) (after : List ℕ) (i n : ℕ) (b : Batching list answers (size ∷ after) i n) where
+    pub turn : Ahead size after b.rest
+    turn = ahead size after b.rest b.left
+
+    pub answer-fits : answer_width * length (the_lists statements) ≤ length answers → i + answer_width ≤ length answers
+    answer-fits k =
+        let z : length b.rest ≡ suc (length turn.others) = ap length turn.are in
+        omega (arith, b.place, b.many)
+
+    pub batch-more : (z : Lent) (r : ℕ) (list' answers' : List ℕ) → z ≡ s
+        → Following (walk_one q allowance z n (take size after)) n i list answers r list' answers'
+        → Batching list' answers' (drop size after) (i + answer_width) r
     unfolding walks_from
-    batch-end h =
-        let z : b.rest ≡ [] = none_left b.rest (sym (drop_of_length-le statements h) ∙ b.left) in
-        let e : b.done ≡ walks_from q allowance s 0 (the_lists statements) =
-        sym (append-nil b.done) ∙ ap (λ (x : List (List ℕ)). b.done ++ walks_from q allowance s n x) (sym z) ∙ b.same in
-        subst (λ ws. Packed ws n list answers) e b.packed
-
-    module _ (h : at < length statements) where
-      pub turn : Ahead statements at b.rest
-      turn = ahead statements at b.rest b.left h
-
-      pub answer-fits : answer_width * length (the_lists statements) ≤ length answers → i + answer_width ≤ length answers
-      answer-fits k =
-          let z : length b.rest ≡ suc (length turn.others) = ap length turn.are in
-          omega (arith, b.place, b.many)
-
-      pub batch-more : (z : Lent) (r : ℕ) (list' answers' : List ℕ) → z ≡ s
-          → Following (walk_one q allowance z n (take (at + 1 + get_or statements at 0 - (at + 1)) (drop (at + 1) statements))) n i list answers r list' answers'
-          → Batching list' answers' (at + 1 + get_or statements at 0) (i + answer_width) r
-      unfolding walks_from
-      batch-more z r list' answers' e f =
-          let t = turn.part in
-          let w = walk_one q allowance s n turn.first in
-          let same-walk : walk_one q allowance z n (take (at + 1 + get_or statements at 0 - (at + 1)) (drop (at + 1) statements)) ≡ w = λ j. walk_one q allowance (e j) n (t j) in
-          let p : Packed (b.done ++ (w ∷ [])) r list' answers' = subst (λ v. Packed (b.done ++ (v ∷ [])) r list' answers') same-walk (f b.done b.packed b.place) in
-          let k : r ≡ n + length w.list = p.counted ∙ ap length (list-more b.done w) ∙ length-append (list_words b.done) w.list
-          ∙ ap (λ (x : ℕ). x + length w.list) (sym b.packed.counted) in
-          let l : length b.rest ≡ suc (length turn.others) = ap length turn.are in
-          let m : length (b.done ++ (w ∷ [])) ≡ length b.done + 1 = length-append b.done (w ∷ []) in
-          record {
-            done = b.done ++ (w ∷ []);
-            rest = turn.others;
-            left = turn.after;
-            same = append_assoc b.done (w ∷ []) (walks_from q allowance s r turn.others)
-                ∙ ap (λ (x : ℕ). b.done ++ (w ∷ walks_from q allowance s x turn.others)) k
-                ∙ ap (λ (x : List (List ℕ)). b.done ++ walks_from q allowance s n x) (sym turn.are)
-                ∙ b.same;
-            packed = p;
-            place = omega (arith, b.place);
-            many = omega (arith, b.many);
-          }
+    batch-more z r list' answers' e f =
+        let t = turn.part in
+        let w = walk_one q allowance s n turn.first in
+        let same-walk : walk_one q allowance z n (take size after) ≡ w = λ j. walk_one q allowance (e j) n (t j) in
+        let p : Packed (b.done ++ (w ∷ [])) r list' answers' = subst (λ v. Packed (b.done ++ (v ∷ [])) r list' answers') same-walk (f b.done b.packed b.place) in
+        let k : r ≡ n + length w.list = p.counted ∙ ap length (list-more b.done w) ∙ length-append (list_words b.done) w.list
+        ∙ ap (λ (x : ℕ). x + length w.list) (sym b.packed.counted) in
+        let l : length b.rest ≡ suc (length turn.others) = ap length turn.are in
+        let m : length (b.done ++ (w ∷ [])) ≡ length b.done + 1 = length-append b.done (w ∷ []) in
+        record {
+          done = b.done ++ (w ∷ []);
+          rest = turn.others;
+          left = turn.left;
+          same = append_assoc b.done (w ∷ []) (walks_from q allowance s r turn.others)
+              ∙ ap (λ (x : ℕ). b.done ++ (w ∷ walks_from q allowance s x turn.others)) k
+              ∙ ap (λ (x : List (List ℕ)). b.done ++ walks_from q allowance s n x) (sym turn.are)
+              ∙ b.same;
+          packed = p;
+          place = omega (arith, b.place);
+          many = omega (arith, b.many);
+        }

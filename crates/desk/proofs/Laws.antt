@@ -21,19 +21,20 @@ use Rattle.walk.specs.Walk.{Walked, wanted_of, walk}
 use Rattle.walk.specs.Walk as passes
 use Rattle.walk.specs.Code.{Answers}
 use Rattle.walk.specs.declared.Walked as walked
+use Rattle.walk.specs.declared.Halted.{Halted}
+use Rattle.walk.specs.Code as walks
 use Rattle.words.specs.Numbers.{accepted, too_few_tokens, bad_tables, too_many_tokens, bad_rules, misfit, number, Fault, fault_number}
 use Rattle.tree.specs.Grow.{Grown, Room}
 use Rattle.tree.specs.Code.{room_of, fault_of, Holding, Grows}
 use Rattle.tree.specs.declared.Fault as why
-use Rattle.tree.specs.declared.Grew.{Grew}
-use Rattle.tree.specs.declared.Grew.TheVariants.{On, Refused}
+use Rattle.std.specs.Prelude.{Result, Ok, Err}
 use Rattle.tree.specs.declared.Counts.{Counts}
 use Rattle.tree.specs.declared.Room as lent
 use Rattle.garden.specs.Garden.{the_commands}
 use Rattle.garden.specs.Garden as garden
 use Rattle.garden.specs.Code.{bounds_of}
 use Rattle.desk.specs.Entry.{Built, not_built, build_room, garden_bounds, built_by, build_after, build_gives, Asked, Lent, parsed, ground_demands, parse_demands, walk_after, walk_of, verify_demands, verify_gives}
-use Rattle.desk.specs.Code.{built_is, Raised, parsed_is, Tried}
+use Rattle.desk.specs.Code.{built_is, answer_of, Raised, parsed_is, Tried}
 use Rattle.desk.specs.declared.Answer.{Answer}
 use Rattle.desk.specs.declared.Made.{Made}
 use Rattle.desk.proofs.Theorems.Promises.{Asks, past, none-fails}
@@ -118,20 +119,20 @@ module _ (provable logic : ℕ) (rules commands : List ℕ) (nodes edges frames 
   build-grown h = ap (build_after rules commands nodes edges frames) (met h bad_rules [] ∙ none-fails)
 
   -- what the growing left in the slices, by what it answered
-  module _ (h : rules_good provable logic rules ≡ true) (z : lent.Room) (e : room_of z ≡ build_room nodes edges) (r : Grew) (ns es : List ℕ)
+  module _ (h : rules_good provable logic rules ≡ true) (z : lent.Room) (e : room_of z ≡ build_room nodes edges) (r : Result Counts why.Fault) (ns es : List ℕ)
       (d : length ns ≡ nodes) (f : length es ≡ edges) (m : Grows z (garden.build (bounds_of z frames) (the_rules rules) (the_commands commands)) r ns es) where
     grown : build_gives provable logic rules commands nodes edges frames ≡ built_by nodes edges frames (garden.build (bounds_of z frames) (the_rules rules) (the_commands commands))
     grown = build-grown h
         ∙ ap (λ (x : Room). built_by nodes edges frames (garden.build (record { room = x; frames = frames / row_width; rows = most_taken }) (the_rules rules) (the_commands commands))) (sym e)
 
-    pub raised-on : (c : Counts) → r ≡ On c
+    pub raised-on : (c : Counts) → r ≡ Ok c
         → Raised (build_gives provable logic rules commands nodes edges frames) (record { number = accepted; nodes = c.nodes; edges = c.edges }) ns es frames
     raised-on c a =
         let s = subst (λ x. Grows z (garden.build (bounds_of z frames) (the_rules rules) (the_commands commands)) x ns es) a m in
         let k = room_fits z nodes edges e in
         raised-ok _ z _ c ns es nodes edges frames grown d f k.nodes-in k.edges-in s
 
-    pub raised-refused : (y : why.Fault) (k : ℕ) → r ≡ Refused y → k ≡ fault_number (fault_of y)
+    pub raised-refused : (y : why.Fault) (k : ℕ) → r ≡ Err y → k ≡ fault_number (fault_of y)
         → Raised (build_gives provable logic rules commands nodes edges frames) (record { number = k; nodes = 0; edges = 0 }) ns es frames
     unfolding built_by
     raised-refused y k a g =
@@ -139,7 +140,7 @@ module _ (provable logic : ℕ) (rules commands : List ℕ) (nodes edges frames 
         raised-no _ k ns es nodes edges frames (grown ∙ rw (s, g)) d f
 
 -- counts of what stands there are small
-pub counts-small : (z : lent.Room) (x : Res Fault Grown) (c : Counts) (r : Grew) (ns es : List ℕ) → z.nodes ≤ most_nodes → z.edges ≤ most_edges → Grows z x r ns es → r ≡ On c
+pub counts-small : (z : lent.Room) (x : Res Fault Grown) (c : Counts) (r : Result Counts why.Fault) (ns es : List ℕ) → z.nodes ≤ most_nodes → z.edges ≤ most_edges → Grows z x r ns es → r ≡ Ok c
     → (c.nodes ≤ most_nodes) × (c.edges ≤ most_edges)
 counts-small z x c r ns es h k s a =
     let t = subst (λ y. Grows z x y ns es) a s in
@@ -212,8 +213,8 @@ module _ (q : Asked) (g : rules_good q.provable q.logic q.rules ≡ true) (t : t
     fit-tokens k = long ∙ met (ap not (le-ltb most_tokens (length q.tokens) k)) too_many_tokens []
 
 -- what the walk answered, as what is answered
-pub tried-walk : (o w : Walked) (r : walked.Walked) (list : List ℕ) → Answers r list o → o ≡ w
-    → Tried w (record { number = r.number; place = r.place; length = r.length; passes = r.passes }) list
+pub tried-walk : (o w : Walked) (r : Result walked.Walked Halted) (list : List ℕ) → Answers (walks.answer_of r) list o → o ≡ w
+    → Tried w (answer_of r) list
 tried-walk o w r list h e =
     let p = h.walked ∙ e in
     record {

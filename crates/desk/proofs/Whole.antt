@@ -15,8 +15,8 @@ use Rattle.words.specs.Numbers.{no_room, wrong_size}
 use Rattle.words.specs.Outcome.{Res, ok, no, pick, Demand, demand, first_fault}
 use Rattle.words.specs.Counted.{lists_of, lists_in, the_lists}
 use Rattle.words.specs.Code.{how_many}
-use Rattle.words.specs.declared.Lists.{Lists}
-use Rattle.words.specs.declared.Lists.TheVariants.{Whole, Cut}
+use Rattle.std.specs.Prelude.{Result, Ok, Err}
+use Rattle.words.specs.declared.Cut.{Cut}
 use Rattle.words.proofs.Theorems.Faults.{met, unmet, none_left, one_more, fault-is}
 use Rattle.rules.specs.Rules.{the_rules, rules_good}
 use Rattle.rows.specs.Rows.{tables_good}
@@ -29,20 +29,20 @@ use Rattle.desk.proofs.Laws.{ground-passed}
 
 -- ---- counted words
 
-whole-lists : (x : Res ℕ (List (List ℕ))) (n : ℕ) → Whole n ≡ how_many 0 x → (whole x ≡ true) × (n ≡ length (lists_in x))
+whole-lists : (x : Res ℕ (List (List ℕ))) (n : ℕ) → Ok n ≡ how_many 0 x → (whole x ≡ true) × (n ≡ length (lists_in x))
 whole-lists (ok ls) n e = (refl, let z : n ≡ 0 + length ls = cc in omega (arith, z))
 whole-lists (no i) n e = absurd (let z : ◌≡◌ {A = ℕ} 0 1 = cc in omega arith)
 
-cut-lists : (x : Res ℕ (List (List ℕ))) (i : ℕ) → Cut i ≡ how_many 0 x → (whole x ≡ false) × (i ≡ cut_at x)
+cut-lists : (x : Res ℕ (List (List ℕ))) (i : ℕ) → Err (record { 0 = i }) ≡ how_many 0 x → (whole x ≡ false) × (i ≡ cut_at x)
 cut-lists (ok ls) i e = absurd (let z : ◌≡◌ {A = ℕ} 0 1 = cc in omega arith)
-cut-lists (no j) i e = (refl, cc)
+cut-lists (no j) i e = (refl, let z : ◌≡◌ {A = Cut} (record { 0 = i }) (record { 0 = j }) = cc in ap (λ (k : Cut). k.0) z)
 
-module _ (ws : List ℕ) {r : Lists} (e : r ≡ how_many 0 (lists_of ws)) where
-  pub are-whole : (n : ℕ) → r ≡ Whole n → (whole (lists_of ws) ≡ true) × (n ≡ length (the_lists ws))
+module _ (ws : List ℕ) {r : Result ℕ Cut} (e : r ≡ how_many 0 (lists_of ws)) where
+  pub are-whole : (n : ℕ) → r ≡ Ok n → (whole (lists_of ws) ≡ true) × (n ≡ length (the_lists ws))
   are-whole n h = whole-lists (lists_of ws) n (sym h ∙ e)
 
-  pub are-cut : (i : ℕ) → r ≡ Cut i → (whole (lists_of ws) ≡ false) × (i ≡ cut_at (lists_of ws))
-  are-cut i h = cut-lists (lists_of ws) i (sym h ∙ e)
+  pub are-cut : (k : Cut) → r ≡ Err k → (whole (lists_of ws) ≡ false) × (k.0 ≡ cut_at (lists_of ws))
+  are-cut k h = cut-lists (lists_of ws) k.0 (sym h ∙ e)
 
 -- ---- which demand fails
 

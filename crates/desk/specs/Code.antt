@@ -1,18 +1,21 @@
 -- What the answers and the slices of the entry points stand for: everything that a call gives back, as one value.
-use Rattle.std.specs.Prelude.{List, [], ◌∷◌, ◌++◌, ◌≡◌, true, ℕ, ◌*◌, ◌≤◌, length, take}
+use Rattle.std.specs.Prelude.{Result, Ok, Err, List, [], ◌∷◌, ◌++◌, ◌≡◌, ℕ, ◌*◌, ◌≤◌, length, take}
 use Rattle.walk.specs.Walk.{Walked}
 use Rattle.words.specs.Limits.{row_width}
 use Rattle.words.specs.Lent.{zeros, cleared_from}
-use Rattle.rules.specs.Rules.{the_rules, rules_good}
-use Rattle.rules.specs.Code.{Indexed}
-use Rattle.rows.specs.Rows.{tables_good}
-use Rattle.rows.specs.Code.{Firsts, RootRows}
+use Rattle.walk.specs.Code as walks
+use Rattle.words.specs.Code.{code}
+use Rattle.walk.specs.declared.Walked as answer
+use Rattle.walk.specs.declared.Halted.{Halted}
+use Rattle.words.specs.declared.Refusal.{Refusal}
+use Rattle.words.specs.declared.Refused.{Refused}
 use Rattle.desk.specs.Entry.{Built, Asked, Lent, Parsed, Verified}
 use Rattle.desk.specs.Batch.{Batch, answer_width, answer_words, list_words}
 use Rattle.desk.specs.Batch as many
 use Rattle.rules.specs.declared.Codes.{Codes}
 use Rattle.desk.specs.declared.Answer.{Answer}
 use Rattle.desk.specs.declared.Made.{Made}
+use Rattle.desk.specs.declared.ground.Ground.{Ground}
 use Rattle.desk.specs.declared.Batch as declared
 
 abbrev pub verified_is : Answer → List ℕ → Verified
@@ -32,6 +35,23 @@ parsed_is a frames list work = record {
   list-words = list;
   work-words = work;
 }
+
+-- what comes of a call, as it is answered
+abbrev pub answer_of : Result answer.Walked Halted → Answer
+answer_of r = let a = walks.answer_of r in record { number = a.number; place = a.place; length = a.length; passes = a.passes }
+
+abbrev pub made_of : Result Made Refusal → Made
+made_of (Ok m) = m
+made_of (Err y) = record { number = code y; nodes = 0; edges = 0 }
+
+abbrev pub batch_of : Result declared.Batch Refused → declared.Batch
+batch_of (Ok b) = b
+batch_of (Err y) = record { number = code y.why; place = y.place; statements = 0; words = 0 }
+
+-- where nothing has a place
+abbrev pub whole_refused : Result declared.Batch Refusal → Result declared.Batch Refused
+whole_refused (Ok b) = Ok b
+whole_refused (Err y) = Err (record { why = y; place = 0 })
 
 -- a build before its slices are cleared: the number, the counts, and the words that stay; nothing stays in the frames, so many words
 pub record Raised (b : Built) (m : Made) (nodes edges : List ℕ) (frames : ℕ) : Type 0 where
@@ -54,14 +74,6 @@ pub record Tried (w : Walked) (a : Answer) (list : List ℕ) : Type 0 where
   pub listed : take a.length list ≡ w.list
 
 -- ---- many statements
-
--- rules and tables that pass, with indexes of both and a table of node 0's rows, which may be empty
-pub record Grounded (codes : Codes) (rs is ns es js ts : List ℕ) : Type 0 where
-  pub rules : rules_good codes.provable.0 codes.logic.0 rs ≡ true
-  pub tables : tables_good (length (the_rules rs)) ns es ≡ true
-  pub starts : Indexed rs is
-  pub firsts : Firsts es js
-  pub roots : RootRows es ts
 
 -- the lists of these walks stand at the front of the list slice, `used` words of it, and their answers at the front of the answer slice
 pub record Packed (ws : List Walked) (used : ℕ) (list answers : List ℕ) : Type 0 where
@@ -115,3 +127,17 @@ lent frames list work = record { frames = length frames; list = length list; wor
 
 abbrev pub lent_many : List ℕ → List ℕ → List ℕ → List ℕ → List ℕ → many.Lent
 lent_many frames list work answers index = record { slices = lent frames list work; answers = length answers; index = length index }
+
+-- the same over rules and tables that have passed
+abbrev pub asked_over : Ground → List ℕ → Asked
+asked_over g tokens = asked g.codes g.grammar.book.rules.now g.grammar.nodes.now g.grammar.edges.now tokens
+
+abbrev pub asked_many_over : Ground → List ℕ → many.Asked
+asked_many_over g statements = asked_many g.codes g.grammar.book.rules.now g.grammar.nodes.now g.grammar.edges.now statements
+
+-- they are these
+pub record Over (g : Ground) (c : Codes) (rs ns es : List ℕ) : Type 0 where
+  pub codes : g.codes ≡ c
+  pub rules : g.grammar.book.rules.now ≡ rs
+  pub nodes : g.grammar.nodes.now ≡ ns
+  pub edges : g.grammar.edges.now ≡ es

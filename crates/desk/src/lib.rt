@@ -1,17 +1,24 @@
 // The entry points. None asks anything of its caller: any words may come in any slice.
 #![tactic(auto)]
 
+mod ground;
 mod many;
 
-ghost use Rattle.std.specs.Prelude.{◌≡◌, true, ◌≤◌, length, get_or};
-ghost use Rattle.words.specs.Outcome.{first_fault};
+ghost use Rattle.std.specs.Prelude.{◌≡◌, true, not, ltb, [], ◌∷◌, ◌≤◌, Err, IfOk, length};
+ghost use Rattle.words.specs.Limits.{most_tokens};
+ghost use Rattle.words.specs.Numbers.{too_few_tokens, too_many_tokens};
+ghost use Rattle.words.specs.Outcome.{demand, first_fault};
+ghost use Rattle.words.specs.Code.{number_of};
 ghost use Rattle.rules.specs.Code.{stretch_of, PartOf};
-ghost use Rattle.tree.specs.Code.{fault_of, room_of};
-ghost use Rattle.words.specs.Numbers.{fault_number};
+ghost use Rattle.tree.specs.Code.{room_of};
 ghost use Rattle.package.specs.Code.{read_is, written_is};
-ghost use Rattle.desk.specs.Entry.{body_gives, build_room, build_gives, ground_demands, walk_room, walk_of, parse_gives, verify_demands, verify_gives, read_gives, write_gives};
+ghost use Rattle.desk.specs.Entry.{body_gives, build_room, build_gives, walk_room, walk_of, parse_gives, verify_demands, verify_gives, read_gives, write_gives};
 ghost use Rattle.desk.specs.Batch.{batch_gives};
-ghost use Rattle.desk.specs.Code.{verified_is, built_is, Raised, parsed_is, Tried, Grounded, batch_is, asked, lent, asked_many, lent_many};
+ghost use Rattle.desk.specs.Code.{verified_is, built_is, answer_of, made_of, Raised, parsed_is, Tried, asked_over, batch_is, asked, lent, asked_many, lent_many};
+
+use ground::Ground;
+use walk::{Halted, Walked};
+use words::Refusal;
 
 // What a parse or a check answers: the number, the place, the length of the list and the passes.
 #[repr(C)]
@@ -42,6 +49,42 @@ pub struct Made {
     pub edges: u32,
 }
 
+impl From<Result<Walked, Halted>> for Answer {
+    ghost from_gives = { λ r a. a ≡ answer_of r };
+
+    fn from(r: Result<Walked, Halted>) -> Answer {
+        match r {
+            Ok(w) => Answer {
+                number: words::ACCEPTED,
+                place: 0,
+                length: w.length,
+                passes: w.passes,
+            },
+            Err(h) => Answer {
+                number: h.why.into(),
+                place: h.place,
+                length: 0,
+                passes: h.passes,
+            },
+        }
+    }
+}
+
+impl From<Result<Made, Refusal>> for Made {
+    ghost from_gives = { λ r m. m ≡ made_of r };
+
+    fn from(r: Result<Made, Refusal>) -> Made {
+        match r {
+            Ok(m) => m,
+            Err(y) => Made {
+                number: y.into(),
+                nodes: 0,
+                edges: 0,
+            },
+        }
+    }
+}
+
 // ---- body
 
 // The body pairs of rule `no`, as that stretch of the caller's rules; an empty one where the rules are bad or have no such rule.
@@ -70,21 +113,6 @@ fn build_room(nodes: usize, edges: usize) -> tree::Room
     }
 }
 
-fn fault_number(f: tree::Fault) -> u32
-    ensures { result ≡ fault_number (fault_of f) }
-{
-    match f {
-        tree::Fault::Collides => words::COLLIDES,
-        tree::Fault::NoNode => words::NO_NODE,
-        tree::Fault::NoEdge => words::NO_EDGE,
-        tree::Fault::SixthReduce => words::SIXTH_REDUCE,
-        tree::Fault::FarOffset => words::FAR_OFFSET,
-        tree::Fault::BadCopy => words::BAD_COPY,
-        tree::Fault::ManyRows => words::MANY_ROWS,
-        tree::Fault::NoClone => words::NO_FRAME,
-    }
-}
-
 // The tables at the front of the two slices: what stands after them is not said, nor what stands in the frames.
 fn raise(
     codes: rules::Codes,
@@ -93,31 +121,21 @@ fn raise(
     nodes: &mut [u32],
     edges: &mut [u32],
     frames: &mut [u32],
-) -> Made
+) -> Result<Made, Refusal>
     ensures { Raised (build_gives codes.provable.0 codes.logic.0 rules.now commands.now
         (length nodes.old) (length edges.old) (length frames.old))
-        result nodes.new edges.new (length frames.old) }
+        (made_of result) nodes.new edges.new (length frames.old) }
 {
     if !rules::rules_good(rules, codes) {
-        return Made {
-            number: words::BAD_RULES,
-            nodes: 0,
-            edges: 0,
-        };
+        return Err(Refusal::BadRules);
     }
     let room = build_room(nodes.len(), edges.len());
-    match garden::build(rules, commands, room, nodes, edges, frames) {
-        tree::Grew::On(c) => Made {
-            number: words::ACCEPTED,
-            nodes: c.nodes as u32,
-            edges: c.edges as u32,
-        },
-        tree::Grew::Refused(f) => Made {
-            number: fault_number(f),
-            nodes: 0,
-            edges: 0,
-        },
-    }
+    let counts = garden::build(rules, commands, room, nodes, edges, frames)?;
+    Ok(Made {
+        number: words::ACCEPTED,
+        nodes: counts.nodes as u32,
+        edges: counts.edges as u32,
+    })
 }
 
 // The tree of the rules and commands, in two slices of any length and content, with a third of frames. A refused build leaves all three
@@ -134,40 +152,55 @@ pub fn build(
         ≡ build_gives codes.provable.0 codes.logic.0 rules.now commands.now
         (length nodes.old) (length edges.old) (length frames.old) }
 {
-    let m = raise(codes, rules, commands, nodes, edges, frames);
-    let n = m.nodes as usize;
-    let e = words::ROW_WIDTH * (m.edges as usize);
-    words::clear_from(nodes, n);
-    words::clear_from(edges, e);
-    words::clear(frames); // no clone is under way
+    let m = Made::from(raise(codes, rules, commands, nodes, edges, frames));
+    words::clear_from(nodes, m.nodes as usize);
+    words::clear_from(edges, words::ROW_WIDTH * (m.edges as usize));
+    frames.fill(0); // no clone is under way
     m
 }
 
 // ---- verify
 
-// The number alone: what stands in the work slice afterwards is not said.
-fn judge(codes: rules::Codes, rules: &[u32], tokens: &[u32], list: &[u32], work: &mut [u32]) -> u32
-    ensures { result ≡ first_fault (verify_demands codes.provable.0 codes.logic.0 rules.now tokens.now list.now
+// Whether a statement has as many tokens as one may have.
+#[tactic(auto, unfolding(words::specs::Outcome::first_fault))]
+fn allowed(tokens: &[u32]) -> Result<(), Refusal>
+    ensures number { number_of result ≡ first_fault (demand (not (ltb (length tokens.now) 2)) too_few_tokens
+        ∷ demand (not (ltb most_tokens (length tokens.now))) too_many_tokens ∷ []) }
+    ensures few { IfOk result (λ _. (2 ≤ length tokens.now) × (length tokens.now ≤ most_tokens)) }
+{
+    if tokens.len() < 2 {
+        return Err(Refusal::TooFewTokens);
+    }
+    if words::MOST_TOKENS < tokens.len() {
+        return Err(Refusal::TooManyTokens);
+    }
+    Ok(())
+}
+
+// What stands in the work slice afterwards is not said.
+fn judge(
+    codes: rules::Codes,
+    rules: &[u32],
+    tokens: &[u32],
+    list: &[u32],
+    work: &mut [u32],
+) -> Result<(), Refusal>
+    ensures { number_of result ≡ first_fault (verify_demands codes.provable.0 codes.logic.0 rules.now tokens.now list.now
         (length work.old)) }
 {
     if !rules::rules_good(rules, codes) {
-        return words::BAD_RULES;
+        return Err(Refusal::BadRules);
     }
-    if tokens.len() < 2 {
-        return words::TOO_FEW_TOKENS;
-    }
-    if words::MOST_TOKENS < tokens.len() {
-        return words::TOO_MANY_TOKENS;
-    }
+    allowed(tokens)?;
     if work.len() < list.len() {
-        return words::NO_ENTRY;
+        return Err(Refusal::NoRoom);
     }
     let goal = walk::goal_of(codes, words::SymbolNo(tokens[0]));
-    let none = &rules[0..0];
-    if !formula::check(rules, none, goal, &tokens[1..], list, work) {
-        return words::MISFIT;
+    let book = formula::RuleBook { rules, starts: &[] };
+    if !formula::check(&book, goal, &tokens[1..], list, work) {
+        return Err(Refusal::Misfit);
     }
-    words::ACCEPTED
+    Ok(())
 }
 
 // The check alone: whether the list is a well typed tree of the stated typecode that spells the statement.
@@ -181,8 +214,12 @@ pub fn verify(
     ensures { verified_is result work.new
         ≡ verify_gives codes.provable.0 codes.logic.0 rules.now tokens.now list.now (length work.old) }
 {
-    let number = judge(codes, rules, tokens, list, work);
-    words::clear(work);
+    let judged = judge(codes, rules, tokens, list, work);
+    work.fill(0);
+    let number = match judged {
+        Ok(()) => words::ACCEPTED,
+        Err(y) => y.into(),
+    };
     Answer {
         number,
         place: 0,
@@ -193,69 +230,27 @@ pub fn verify(
 
 // ---- parse
 
-// The number of the refusal of rules or tables, or that of no refusal.
-fn ground_fault(codes: rules::Codes, rules: &[u32], nodes: &[u32], edges: &[u32]) -> u32
-    ensures { result ≡ first_fault (ground_demands codes.provable.0 codes.logic.0 rules.now nodes.now edges.now) }
-{
-    if !rules::rules_good(rules, codes) {
-        return words::BAD_RULES;
-    }
-    if !rows::tables_good(rules::count(rules), nodes, edges) {
-        return words::BAD_TABLES;
-    }
-    words::ACCEPTED
-}
-
-fn refused(number: u32) -> Answer
-    ensures { result ≡ record { number = number; place = 0; length = 0; passes = 0 } }
-{
-    Answer {
-        number,
-        place: 0,
-        length: 0,
-        passes: 0,
-    }
-}
-
-// The walk of a statement or the refusal of its length, over rules and tables that have passed their checks. The list stands at the front of
-// its slice; what else stands in the slices is not said.
+// The walk of a statement or the refusal of its length. The list stands at the front of its slice; what else stands in the slices is not said.
 fn parse_one(
-    codes: rules::Codes,
-    rules: &[u32],
-    starts: &[u32],
-    nodes: &[u32],
-    edges: &[u32],
-    firsts: &[u32],
-    roots: &[u32],
+    ground: &Ground,
     tokens: &[u32],
     allowance: u32,
     frames: &mut [u32],
     list: &mut [u32],
     work: &mut [u32],
-) -> Answer
-    requires { Grounded codes rules.now starts.now nodes.now edges.now firsts.now roots.now }
-    ensures { Tried (walk_of (asked codes rules.now nodes.now edges.now tokens.now) allowance
-        (walk_room (lent frames.old list.old work.old))) result list.new }
+) -> Result<Walked, Halted>
+    ensures { Tried (walk_of (asked_over ground.now tokens.now) allowance
+        (walk_room (lent frames.old list.old work.old))) (answer_of result) list.new }
 {
-    if tokens.len() < 2 {
-        return refused(words::TOO_FEW_TOKENS);
-    }
-    if words::MOST_TOKENS < tokens.len() {
-        return refused(words::TOO_MANY_TOKENS);
-    }
-    let terms = walk::Terms { codes, allowance };
-    let w = walk::walk(
-        rules, starts, nodes, edges, firsts, roots, tokens, terms, frames, list, work,
-    );
-    Answer {
-        number: w.number,
-        place: w.place,
-        length: w.length,
-        passes: w.passes,
-    }
+    allowed(tokens)?;
+    let terms = walk::Terms {
+        codes: ground.codes,
+        allowance,
+    };
+    walk::walk(&ground.grammar, tokens, terms, frames, list, work)
 }
 
-// The answer, and the list at the front of its slice: what else stands in the slices is not said. One statement is not worth an index.
+// The answer, and the list at the front of its slice: what else stands in the slices is not said.
 fn attempt(
     codes: rules::Codes,
     rules: &[u32],
@@ -266,18 +261,12 @@ fn attempt(
     frames: &mut [u32],
     list: &mut [u32],
     work: &mut [u32],
-) -> Answer
+) -> Result<Walked, Halted>
     ensures { Tried (walk_of (asked codes rules.now nodes.now edges.now tokens.now) allowance
-        (walk_room (lent frames.old list.old work.old))) result list.new }
+        (walk_room (lent frames.old list.old work.old))) (answer_of result) list.new }
 {
-    let number = ground_fault(codes, rules, nodes, edges);
-    if number != words::ACCEPTED {
-        return refused(number);
-    }
-    let none = &rules[0..0];
-    parse_one(
-        codes, rules, none, nodes, edges, none, none, tokens, allowance, frames, list, work,
-    )
+    let ground = Ground::new(codes, rules, nodes, edges)?;
+    parse_one(&ground, tokens, allowance, frames, list, work)
 }
 
 // The statement's list of rules, in postfix order, or a refusal. Frame and work slices are zero afterwards; so is the list slice, but for the
@@ -297,13 +286,13 @@ pub fn parse(
         ≡ parse_gives (asked codes rules.now nodes.now edges.now tokens.now) allowance
         (lent frames.old list.old work.old) }
 {
-    let a = attempt(
+    let tried = attempt(
         codes, rules, nodes, edges, tokens, allowance, frames, list, work,
     );
-    let n = a.length as usize;
-    words::clear_from(list, n);
-    words::clear(frames);
-    words::clear(work);
+    let a = Answer::from(tried);
+    words::clear_from(list, a.length as usize);
+    frames.fill(0);
+    work.fill(0);
     a
 }
 
@@ -329,14 +318,15 @@ pub fn parse_many(
         ≡ batch_gives (asked_many codes rules.now nodes.now edges.now statements.now) allowance
         (lent_many frames.old list.old work.old answers.old index.old) }
 {
-    let b = many::attempt(
+    let tried = many::attempt(
         codes, rules, nodes, edges, statements, allowance, frames, list, work, answers, index,
     );
+    let b = Batch::from(tried);
     words::clear_from(list, b.words);
     words::clear_from(answers, many::ANSWER_WIDTH * b.statements);
-    words::clear(frames);
-    words::clear(work);
-    words::clear(index);
+    frames.fill(0);
+    work.fill(0);
+    index.fill(0);
     b
 }
 

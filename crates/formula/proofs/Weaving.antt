@@ -1,145 +1,134 @@
 -- Entries in two slices, planned and woven into a list.
 use mathlib.Core.Path.{◌≡◌, refl, sym, ap, subst, ◌∙◌}
 use mathlib.Core.Bool.{Bool, true, false}
-use mathlib.Core.List.{List, [], ◌∷◌, ◌++◌, append_assoc}
-use Prim.Native.Nat.{ℕ, zero, suc, ◌+◌, ◌-◌, ◌≤◌, ◌<◌}
+use mathlib.Core.List.{List, [], ◌∷◌, ◌++◌, append_assoc, map, map-append}
+use Prim.Native.Nat.{ℕ, suc, ◌+◌, ◌-◌, ◌≤◌, ◌<◌}
 use native.Mathlib.Omega.{arith}
 use native.Mathlib.Numerals.{add-one}
 use native.Mathlib.Nat.{sub-zero}
 use lib.Dec.{leb}
-use lib.ListN.{length, get_or, take, drop, set, length-map, drop_of_length-le, take-append-drop}
-use lib.Seq.{drop-cons, take-suc, length-take-le, take_at, drop_at, take-append-le, take-take, set_at, get_or-take}
+use lib.ListN.{length, get_or, take, drop, set, length-append, length-drop, drop_of_length-le, take-append-drop}
+use lib.Seq.{drop-cons, take-suc, length-take-le, take_at, drop_at, take-append-le, take-take, set_at}
 use borrow.Author.Tests.{le-leb, lt-leb, leb-false}
-use Rattle.words.specs.Lent.{inserted, moved_up}
-use Rattle.words.specs.Limits.{most_reduces}
+use Rattle.words.specs.Lent.{moved_up}
 use Rattle.words.specs.Outcome.{Res, ok, no, bind}
 use Rattle.words.specs.Numbers.{Why}
 use Rattle.words.proofs.Theorems.Tests.{by-test}
 use Rattle.rules.specs.Rules.{Rule}
 use Rattle.rows.specs.Rows.{Reduce}
-use Rattle.rows.specs.Code.{reduce_is, edge_is}
-use Rattle.rows.specs.declared.Reduce as coded
-use Rattle.rows.specs.declared.Edge as edge
+use Rattle.rows.specs.Code.{reduce_is}
+use Rattle.rows.specs.declared.reduce_list.Reduce as coded
 use Rattle.formula.specs.Reducing.{Trees, reduce, reduce_all}
-use Rattle.formula.specs.Tail.{measure, Entry, put, Rising, woven, Plan, plan}
+use Rattle.formula.specs.Tail.{measure, Entry, put, Rising, woven, plan}
 use Rattle.formula.specs.Code.{trees_of, Inside, Gives}
-use Rattle.formula.specs.TailCode.{Measures, entries_of, entries_in, rank, Plans}
+use Rattle.formula.specs.TailCode.{Measures, entry_is, entries_of, entries_in, rank, Plans}
+use Rattle.std.specs.Prelude.{Result, Ok, Err}
+use Rattle.std.specs.List.{copy_within}
+use Rattle.std.proofs.lemmas.List.{drop-take, drop-map, take-map}
 use Rattle.formula.specs.declared.Trees as held
-use Rattle.formula.specs.declared.Reduced.{Reduced}
-use Rattle.formula.specs.declared.Reduced.TheVariants.{Done, TooFew, Full}
+use Rattle.formula.specs.declared.Unfit.{Unfit}
 use Rattle.formula.specs.declared.sizes.Fit.{Fit}
-use Rattle.formula.specs.declared.sizes.Fit.TheVariants as fit
-use Rattle.formula.proofs.Theorems.Tail.{put_in, cut, rising_le, rising-drop, woven-from, length-woven, all-planned, Laid, all_laid}
-use Rattle.formula.proofs.Reducing.{taken-inserted, fit_is, sized_of, sized-length, inside_of}
+use Rattle.formula.specs.declared.tail.Entry as coded_entry
+use Rattle.formula.proofs.Theorems.Tail.{cut, rising_le, rising-drop, woven-from, length-woven, all-planned, Laid, all_laid}
+use Rattle.formula.proofs.Reducing.{sized_of, sized-length, inside_of}
 
 -- ---- the entries before a place
 
-module _ (qs : List ℕ) (p i : ℕ) where
-  pub rank-here : i < length qs → p ≤ get_or qs i 0 + i → rank (p - i) (drop i qs) ≡ 0
+module _ (es : List Entry) (p i : ℕ) where
+  pub rank-here : (e : Entry) → drop i es ≡ e ∷ drop (i + 1) es → p ≤ e.place + i → rank (p - i) (drop i es) ≡ 0
   unfolding rank
-  rank-here h k = rw (drop-cons qs i 0 h, le-leb (p - i) (get_or qs i 0) (omega arith))
+  rank-here e d k = rw (d, le-leb (p - i) e.place (omega arith))
 
-  pub rank-next : i < length qs → get_or qs i 0 + i < p → rank (p - i) (drop i qs) ≡ suc (rank (p - (i + 1)) (drop (i + 1) qs))
+  pub rank-next : (e : Entry) → drop i es ≡ e ∷ drop (i + 1) es → e.place + i < p → rank (p - i) (drop i es) ≡ suc (rank (p - (i + 1)) (drop (i + 1) es))
   unfolding rank
-  rank-next h k =
-      let e : p - i - 1 ≡ p - (i + 1) = omega arith in
-      rw (drop-cons qs i 0 h, lt-leb (p - i) (get_or qs i 0) (omega arith), e, add-one i)
+  rank-next e d k =
+      let q : p - i - 1 ≡ p - (i + 1) = omega arith in
+      rw (d, lt-leb (p - i) e.place (omega arith), q)
 
-  pub rank-end : length qs ≤ i → rank (p - i) (drop i qs) ≡ 0
+  pub rank-end : length es ≤ i → rank (p - i) (drop i es) ≡ 0
   unfolding rank
-  rank-end h = rw (drop_of_length-le qs h)
+  rank-end h = rw (drop_of_length-le es h)
 
-pub rank-le : (p : ℕ) (qs : List ℕ) → (rank p qs ≤ p) × (rank p qs ≤ length qs)
+pub rank-le : (p : ℕ) (es : List Entry) → (rank p es ≤ p) × (rank p es ≤ length es)
 unfolding rank
 rank-le p [] = (omega arith, omega arith)
-rank-le p (q ∷ qs) =
-    by-test (λ (n : ℕ). (n ≤ p) × (n ≤ suc (length qs))) (leb p q) (λ t. (omega arith, omega arith))
+rank-le p (e ∷ es) =
+    by-test (λ (n : ℕ). (n ≤ p) × (n ≤ suc (length es))) (leb p e.place) (λ t. (omega arith, omega arith))
     λ t.
-    let h = leb-false p q t in
-    let r = rank-le (p - 1) qs in
+    let h = leb-false p e.place t in
+    let r = rank-le (p - 1) es in
     (omega (arith, h, r.0), omega (arith, r.1))
 
--- ---- an entry put among those that two slices hold
+-- ---- an entry put among those that a slice holds
 
-put-by : (p r q s : ℕ) (qs rs : List ℕ) (b : Bool) → leb p q ≡ b
-    → put (p - 1) r (entries_of qs rs) ≡ entries_of (put_in (rank (p - 1) qs) (p - 1 - rank (p - 1) qs) qs) (put_in (rank (p - 1) qs) r rs)
-    → put p r (entries_of (q ∷ qs) (s ∷ rs)) ≡ entries_of (put_in (rank p (q ∷ qs)) (p - rank p (q ∷ qs)) (q ∷ qs)) (put_in (rank p (q ∷ qs)) r (s ∷ rs))
-unfolding put rank entries_of
-put-by p r q s qs rs true t h = rw (t, sub-zero p)
-put-by p r q s qs rs false t h =
-    let e : p - suc (rank (p - 1) qs) ≡ p - 1 - rank (p - 1) qs = omega arith in
-    rw (t, e, h)
+put-by : (p r : ℕ) (e : Entry) (es : List Entry) (b : Bool) → leb p e.place ≡ b
+    → put (p - 1) r es ≡ take (rank (p - 1) es) es ++ record { place = p - 1 - rank (p - 1) es; rule = r } ∷ drop (rank (p - 1) es) es
+    → put p r (e ∷ es) ≡ take (rank p (e ∷ es)) (e ∷ es) ++ record { place = p - rank p (e ∷ es); rule = r } ∷ drop (rank p (e ∷ es)) (e ∷ es)
+unfolding put rank
+put-by p r e es true t h = rw (t, sub-zero p)
+put-by p r e es false t h =
+    let q : p - suc (rank (p - 1) es) ≡ p - 1 - rank (p - 1) es = omega arith in
+    rw (t, q, h)
 
-put-rank : (p r : ℕ) (qs rs : List ℕ) → length qs ≡ length rs
-    → put p r (entries_of qs rs) ≡ entries_of (put_in (rank p qs) (p - rank p qs) qs) (put_in (rank p qs) r rs)
-unfolding put rank entries_of
-put-rank p r [] [] e = rw (sub-zero p)
-put-rank p r [] (s ∷ rs) e = absurd (omega arith)
-put-rank p r (q ∷ qs) [] e = absurd (omega arith)
-put-rank p r (q ∷ qs) (s ∷ rs) e = put-by p r q s qs rs _ refl (put-rank (p - 1) r qs rs (omega arith))
+put-rank : (p r : ℕ) (es : List Entry) → put p r es ≡ take (rank p es) es ++ record { place = p - rank p es; rule = r } ∷ drop (rank p es) es
+unfolding put rank
+put-rank p r [] = rw (sub-zero p)
+put-rank p r (e ∷ es) = put-by p r e es _ refl (put-rank (p - 1) r es)
 
-pub put-in : (n p r i : ℕ) (ps rs ps' rs' : List ℕ) → n < length ps → n < length rs → i ≡ rank p (take n ps)
-    → ps' ≡ inserted ps n i (p - i) → rs' ≡ inserted rs n i r → entries_in (n + 1) ps' rs' ≡ put p r (entries_in n ps rs)
-put-in n p r i ps rs ps' rs' h k e f g =
-    let a = length-take-le n ps (omega arith) in
-    let b = length-take-le n rs (omega arith) in
-    let l : i ≤ n = omega (arith, e, a, (rank-le p (take n ps)).1) in
-    rw (f, g, taken-inserted ps n i (p - i) l h, taken-inserted rs n i r l k, e) (sym (put-rank p r (take n ps) (take n rs) (a ∙ sym b)))
+-- an entry more in a slice, after those from number i on have moved up by one
+module _ (n i : ℕ) (x : coded_entry.Entry) (es : List coded_entry.Entry) (h : i ≤ n) (k : n < length es) where
+  entry-in : take (n + 1) (set (copy_within es i n (i + 1)) i x) ≡ take i (take n es) ++ x ∷ drop i (take n es)
+  entry-in =
+      let f = take i es in
+      let m = take (n - i) (drop i es) in
+      let d = drop (i + 1 + (n - i)) es in
+      let lf : length f ≡ i = length-take-le i es (omega arith) in
+      let lm : length m ≡ n - i = length-take-le (n - i) (drop i es) (omega (arith, length-drop i es)) in
+      let e : copy_within es i n (i + 1) ≡ f ++ get_or es i x ∷ (m ++ d) =
+      let t : take (i + 1) es ≡ f ++ get_or es i x ∷ [] = rw add-one (take-suc es i x (omega arith)) in
+      rw (t, append_assoc f (get_or es i x ∷ []) m) (append_assoc f (get_or es i x ∷ m) d) in
+      let u : set (copy_within es i n (i + 1)) i x ≡ (f ++ x ∷ m) ++ d =
+      rw (e, set_at f (get_or es i x) (m ++ d) x i lf) (sym (append_assoc f (x ∷ m) d)) in
+      let q : i + (n - i) ≡ n = omega arith in
+      let g : drop i (take n es) ≡ m = rw q at (drop-take i (n - i) es) in
+      rw (u, g, take-take i n es h) (take_at (f ++ x ∷ m) d (n + 1) (length-append f (x ∷ m) ∙ omega (arith, lf, lm)))
+
+  pub put-in : (p : ℕ) → i ≡ rank p (entries_in n es) → x.place ≡ p - i → entries_in (n + 1) (set (copy_within es i n (i + 1)) i x) ≡ put p x.rule.0 (entries_in n es)
+  put-in p e f =
+      rw (entry-in, map-append entry_is (take i (take n es)) (x ∷ drop i (take n es)), ← take-map entry_is i (take n es), ← drop-map entry_is i (take n es), f, e)
+      (sym (put-rank p x.rule.0 (entries_in n es)))
 
 -- ---- the reduces of an edge, from number k on
 
-module _ (R : List Rule) (room : ℕ) (ds : List Reduce) (k : ℕ) (d : coded.Reduce) (h : k < length ds)
-    (e : reduce_is d ≡ get_or ds k (record { rule = 0; offset = 0 })) where
-  split : drop k ds ≡ reduce_is d ∷ drop (k + 1) ds
-  split = drop-cons ds k (record { rule = 0; offset = 0 }) h ∙ rw (e, add-one)
+module _ (R : List Rule) (room : ℕ) (ds : List coded.Reduce) (k : ℕ) (d : coded.Reduce) (h : k < length ds) where
+  abbrev here : coded.Reduce
+  here = get_or ds k d
 
-  module _ (s : held.Trees) (zs ws : List ℕ) (es : List Entry) (f : Fit) (m : Measures room s f ws (measure R room d.rule.0 d.offset zs)) where
-    pub plan-on : (p : ℕ) (t : held.Trees) → f ≡ fit.At p t → plan R room (drop k ds) zs es ≡ plan R room (drop (k + 1) ds) (take t.count ws) (put p d.rule.0 es)
-    unfolding plan bind
-    plan-on p t q = rw (split, ← (fit_is f (fit.At p t) q m).outcome)
+  split : drop k (map reduce_is ds) ≡ reduce_is here ∷ drop (k + 1) (map reduce_is ds)
+  split = rw (drop-map reduce_is k ds, drop-map reduce_is (k + 1) ds, drop-cons ds k d h, add-one k)
 
-    pub plan-few : (ps rs : List ℕ) (n : ℕ) → f ≡ fit.TooFew → Plans room n TooFew ws ps rs (plan R room (drop k ds) zs es)
+  module _ (s : held.Trees) (zs ws : List ℕ) (es : List Entry) where
+    pub plan-on : (f : Fit) → Measures room s (Ok f) ws (measure R room here.rule.0 here.offset zs)
+        → plan R room (drop k (map reduce_is ds)) zs es ≡ plan R room (drop (k + 1) (map reduce_is ds)) (take f.trees.count ws) (put f.place here.rule.0 es)
     unfolding plan bind
-    plan-few ps rs n q = record { outcome = rw (split, ← (fit_is f fit.TooFew q m).outcome); sized = tt }
+    plan-on f m = rw (split, ← m.outcome)
 
-    pub plan-full : (ps rs : List ℕ) (n : ℕ) → f ≡ fit.Full → Plans room n Full ws ps rs (plan R room (drop k ds) zs es)
+    pub plan-none : (cs : List coded_entry.Entry) (n : ℕ) (y : Unfit) → Measures room s (Err y) ws (measure R room here.rule.0 here.offset zs)
+        → Plans room n (Err y) ws cs (plan R room (drop k (map reduce_is ds)) zs es)
     unfolding plan bind
-    plan-full ps rs n q = record { outcome = rw (split, ← (fit_is f fit.Full q m).outcome); sized = tt }
+    plan-none cs n y m = record { outcome = rw (split, ← m.outcome); sized = tt }
 
 pub plan-end : (R : List Rule) (room : ℕ) (ds : List Reduce) (k : ℕ) (zs : List ℕ) (es : List Entry) → length ds ≤ k
     → plan R room (drop k ds) zs es ≡ ok (record { sizes = zs; entries = es })
 unfolding plan
 plan-end R room ds k zs es h = rw (drop_of_length-le ds h)
 
--- an edge has as many reduces as its count says
-pub reduces-count : (e : edge.Edge) → length e.reduces ≡ most_reduces → e.count ≤ most_reduces → length (edge_is e).reduces ≡ e.count
-reduces-count e h k = length-map (take e.count e.reduces) reduce_is ∙ length-take-le e.count e.reduces (omega arith)
-
 -- ---- entries woven into the list, the last one first
 
-entries_at : (qs rs : List ℕ) (j : ℕ) → j < length qs → j < length rs
-    → drop j (entries_of qs rs) ≡ record { place = get_or qs j 0; rule = get_or rs j 0 } ∷ drop (suc j) (entries_of qs rs)
-unfolding entries_of
-entries_at [] rs j h k = absurd (omega arith)
-entries_at (q ∷ qs) [] j h k = absurd (omega arith)
-entries_at (q ∷ qs) (r ∷ rs) zero h k = refl
-entries_at (q ∷ qs) (r ∷ rs) (suc j) h k = entries_at qs rs j (omega arith) (omega arith)
-
-length-entries : (qs rs : List ℕ) → length (entries_of qs rs) ≤ length qs
-unfolding entries_of
-length-entries [] rs = omega arith
-length-entries (q ∷ qs) [] = omega arith
-length-entries (q ∷ qs) (r ∷ rs) = omega (arith, length-entries qs rs)
-
-pub entry_in : (n : ℕ) (ps rs : List ℕ) (left j : ℕ) → left ≡ suc j → j < n → n ≤ length ps → n ≤ length rs
-    → drop j (entries_in n ps rs) ≡ record { place = get_or ps j 0; rule = get_or rs j 0 } ∷ drop left (entries_in n ps rs)
-entry_in n ps rs left j e h a b =
-    entries_at (take n ps) (take n rs) j (omega (arith, length-take-le n ps a)) (omega (arith, length-take-le n rs b))
-    ∙ rw (get_or-take n ps j 0 h, get_or-take n rs j 0 h, e)
-
--- none after the last
-pub entries-end : (n : ℕ) (ps rs : List ℕ) → n ≤ length ps → length (entries_in n ps rs) ≤ n
-entries-end n ps rs h = omega (arith, length-entries (take n ps) (take n rs), length-take-le n ps h)
+-- number j, and those after it
+pub entry_at : (cs : List coded_entry.Entry) (j left : ℕ) (d : coded_entry.Entry) → left ≡ suc j → j < length cs
+    → drop j (entries_of cs) ≡ entry_is (get_or cs j d) ∷ drop left (entries_of cs)
+entry_at cs j left d e h = rw (e, drop-map entry_is j cs, drop-map entry_is (suc j) cs, drop-cons cs j d h)
 
 -- the entries from `left` on stand in the list, and the words from `end` on; what stands below is as it was
 abbrev pub woven_to : List ℕ → List Entry → ℕ → ℕ → ℕ → ℕ → List ℕ
@@ -223,14 +212,11 @@ module _ (l : List ℕ) (es : List Entry) (len n : ℕ) (h : Rising 0 es len) (k
 
 -- ---- the reduces of an edge in the list too
 
-pub planned-is : {room k : ℕ} {ws ps rs : List ℕ} {o : Res Why Plan} (r s : Reduced) → r ≡ s → Plans room k r ws ps rs o → Plans room k s ws ps rs o
-planned-is {room} {k} {ws} {ps} {rs} {o} r s e p = subst (λ r. Plans room k r ws ps rs o) e p
-
-pub all_none : (R : List Rule) (room : ℕ) (ds : List Reduce) (s : held.Trees) (ls ws : List ℕ) → Inside room s ls ws → length ds ≡ 0
-    → Gives room (Done s) ls ws (reduce_all R room ds (trees_of s ls ws))
+pub all_none : (R : List Rule) (room : ℕ) (ds : List coded.Reduce) (s : held.Trees) (ls ws : List ℕ) → Inside room s ls ws → length ds < 1
+    → Gives room (Ok s) ls ws (reduce_all R room (map reduce_is ds) (trees_of s ls ws))
 unfolding reduce_all
-all_none R room [] s ls ws i e = record { outcome = refl; inside = i }
-all_none R room (d ∷ ds) s ls ws i e = absurd (omega arith)
+all_none R room [] s ls ws i h = record { outcome = refl; inside = i }
+all_none R room (d ∷ ds) s ls ws i h = absurd (omega arith)
 
 -- one reduce alone
 then-none : (R : List Rule) (room : ℕ) (x : Res Why Trees) → bind x (reduce_all R room []) ≡ x
@@ -238,50 +224,47 @@ unfolding bind reduce_all
 then-none R room (ok ts) = refl
 then-none R room (no y) = refl
 
-pub all_one : (R : List Rule) (room : ℕ) (ds : List Reduce) (d : coded.Reduce) (ts : Trees) → length ds ≡ 1
-    → reduce_is d ≡ get_or ds 0 (record { rule = 0; offset = 0 }) → reduce_all R room ds ts ≡ reduce R room d.rule.0 d.offset ts
+pub all_one : (R : List Rule) (room : ℕ) (ds : List coded.Reduce) (c : coded.Reduce) (ts : Trees) → 1 ≤ length ds → length ds < 2
+    → reduce_all R room (map reduce_is ds) ts ≡ reduce R room (get_or ds 0 c).rule.0 (get_or ds 0 c).offset ts
 unfolding reduce_all
-all_one R room [] d ts n e = absurd (omega arith)
-all_one R room (x ∷ []) d ts n e = rw (← e) (then-none R room (reduce R room d.rule.0 d.offset ts))
-all_one R room (x ∷ y ∷ ds) d ts n e = absurd (omega arith)
+all_one R room [] c ts h k = absurd (omega arith)
+all_one R room (d ∷ []) c ts h k = then-none R room (reduce R room d.rule.0 d.offset ts)
+all_one R room (d ∷ x ∷ ds) c ts h k = absurd (omega arith)
 
 module _ (R : List Rule) (room : ℕ) (ds : List Reduce) (s : held.Trees) (ls ws : List ℕ) (i : Inside room s ls ws) where
   all-is : reduce_all R room ds (trees_of s ls ws) ≡ bind (plan R room ds (take s.count ws) []) λ p. ok (cut p.sizes (woven 0 p.entries (take s.len ls)))
   unfolding trees_of
   all-is = all-planned R room ds (take s.count ws) (take s.len ls) (sized-length room s ls ws (sized_of room s ls ws i) i.lent.0)
 
-  module _ (k : ℕ) (r : Reduced) (ws' ps rs : List ℕ) (q : Plans room k r ws' ps rs (plan R room ds (take s.count ws) [])) where
-    pub all-few : (ls' : List ℕ) → r ≡ TooFew → Gives room TooFew ls' ws' (reduce_all R room ds (trees_of s ls ws))
-    unfolding bind
-    all-few ls' e = record { outcome = sym (all-is ∙ rw (← (planned-is r TooFew e q).outcome)); inside = tt }
+  module _ (k : ℕ) (ws' : List ℕ) (cs : List coded_entry.Entry) where
+    abbrev Planned : Result held.Trees Unfit → Type 0
+    Planned r = Plans room k r ws' cs (plan R room ds (take s.count ws) [])
 
-    pub all-full : (ls' : List ℕ) → r ≡ Full → Gives room Full ls' ws' (reduce_all R room ds (trees_of s ls ws))
+    pub all-refused : (ls' : List ℕ) (y : Unfit) → Planned (Err y) → Gives room (Err y) ls' ws' (reduce_all R room ds (trees_of s ls ws))
     unfolding bind
-    all-full ls' e = record { outcome = sym (all-is ∙ rw (← (planned-is r Full e q).outcome)); inside = tt }
+    all-refused ls' y q = record { outcome = sym (all-is ∙ rw (← q.outcome)); inside = tt }
 
-    module _ (n : length ds ≡ k) (t : held.Trees) (e : r ≡ Done t) where
+    module _ (n : length ds ≡ k) (t : held.Trees) (q : Planned (Ok t)) where
       -- entries in order, one for each reduce
-      pub laid : Rising 0 (entries_in k ps rs) s.len × (length (entries_in k ps rs) ≡ k) × (t.len ≡ s.len + k)
+      pub laid : Rising 0 (entries_in k cs) s.len × (length (entries_in k cs) ≡ k) × (t.len ≡ s.len + k)
       laid =
-          let d = planned-is r (Done t) e q in
           let z = sized_of room s ls ws i in
-          let l = subst (λ x. Laid s.len k x) (sym d.outcome) (rw n at (all_laid R room s.len ds (take s.count ws) z.sum)) in
-          (l.0, l.1, sym d.sized.sum ∙ l.2)
+          let l = subst (λ x. Laid s.len k x) (sym q.outcome) (rw n at (all_laid R room s.len ds (take s.count ws) z.sum)) in
+          (l.0, l.1, sym q.sized.sum ∙ l.2)
 
       pub room-left : s.len + k ≤ length ls
-      room-left = omega (arith, laid.2, (planned-is r (Done t) e q).sized.fits, i.lent)
+      room-left = omega (arith, laid.2, q.sized.fits, i.lent)
 
-      pub all_done : (ls' : List ℕ) → ls' ≡ woven 0 (entries_in k ps rs) (take s.len ls) ++ drop (s.len + k) ls → length ls' ≡ length ls
-          → Gives room (Done t) ls' ws' (reduce_all R room ds (trees_of s ls ws))
+      pub all_done : (ls' : List ℕ) → ls' ≡ woven 0 (entries_in k cs) (take s.len ls) ++ drop (s.len + k) ls → length ls' ≡ length ls
+          → Gives room (Ok t) ls' ws' (reduce_all R room ds (trees_of s ls ws))
       unfolding bind trees_of
       all_done ls' g m =
-          let d = planned-is r (Done t) e q in
-          let es = entries_in k ps rs in
+          let es = entries_in k cs in
           let l = take s.len ls in
           let c : length l ≡ s.len = length-take-le s.len ls (omega (arith, room-left)) in
           let w : length (woven 0 es l) ≡ t.len = omega (arith, length-woven 0 es l (subst (λ (n : ℕ). Rising 0 es n) (sym c) laid.0), c, laid.1, laid.2) in
           let x : take t.len ls' ≡ woven 0 es l = rw g (take_at (woven 0 es l) (drop (s.len + k) ls) t.len w) in
           record {
-            outcome = ap (λ (y : List ℕ). ok (cut (take t.count ws') y)) x ∙ sym (all-is ∙ rw (← d.outcome));
-            inside = inside_of room t ls' ws' d.sized (omega (arith, m, i.lent));
+            outcome = ap (λ (y : List ℕ). ok (cut (take t.count ws') y)) x ∙ sym (all-is ∙ rw (← q.outcome));
+            inside = inside_of room t ls' ws' q.sized (omega (arith, m, i.lent));
           }

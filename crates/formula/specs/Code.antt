@@ -1,5 +1,5 @@
 -- What the code's own types stand for, in the terms of the definitions.
-use Rattle.std.specs.Prelude.{ℕ, ◌+◌, ◌*◌, ◌/◌, ◌%◌, ◌≤◌, ◌<◌, ◌≡◌, Bool, true, List, [], ◌∷◌, map, reverse, length, take, drop}
+use Rattle.std.specs.Prelude.{ℕ, ◌+◌, ◌*◌, ◌/◌, ◌%◌, ◌≤◌, ◌<◌, ◌≡◌, Bool, true, List, [], ◌∷◌, map, reverse, length, take, drop, Result, Ok, Err}
 use Rattle.words.specs.Outcome.{Res, ok, no}
 use Rattle.words.specs.Numbers.{Why, misfit, no_entry}
 use Rattle.rules.specs.Rules.{Item, con, slot, rule_of, the_rules}
@@ -9,10 +9,10 @@ use Rattle.formula.specs.Reducing.{Trees, flat}
 use Rattle.formula.specs.Turns.{still, facing}
 use Rattle.formula.specs.declared.Trees as held
 use Rattle.formula.specs.declared.Seek.{Seek}
-use Rattle.formula.specs.declared.Turn.{Turn}
-use Rattle.formula.specs.declared.Turn.TheVariants.{On, Ended}
-use Rattle.formula.specs.declared.Reduced.{Reduced}
-use Rattle.formula.specs.declared.Reduced.TheVariants.{Done, TooFew, Full}
+use Rattle.formula.specs.declared.Unfit.{Unfit}
+use Rattle.formula.specs.declared.Unfit.TheVariants.{TooFew, Full}
+use Rattle.std.specs.declared.ops.ControlFlow.{ControlFlow}
+use Rattle.std.specs.declared.ops.ControlFlow.TheVariants.{Continue, Break}
 
 -- a tree's size is one word
 abbrev pub most_room : ℕ
@@ -41,19 +41,22 @@ pub record Stands (room : ℕ) (s : held.Trees) (ls ws : List ℕ) (ts : Trees) 
   pub are : trees_of s ls ws ≡ ts
   pub inside : Inside room s ls ws
 
--- what the answer of a reduce says
-abbrev pub outcome_of : Reduced → List ℕ → List ℕ → Res Why Trees
-outcome_of (Done s) ls ws = ok (trees_of s ls ws)
-outcome_of TooFew ls ws = no misfit
-outcome_of Full ls ws = no no_entry
+-- too few trees are 4, a full list 7
+abbrev pub unfit : Unfit → Why
+unfit TooFew = misfit
+unfit Full = no_entry
 
-abbrev pub StillInside : ℕ → Reduced → List ℕ → List ℕ → Type 0
-StillInside room (Done s) ls ws = Inside room s ls ws
-StillInside room TooFew ls ws = Unit {0}
-StillInside room Full ls ws = Unit {0}
+-- what the answer of a reduce says
+abbrev pub outcome_of : Result held.Trees Unfit → List ℕ → List ℕ → Res Why Trees
+outcome_of (Ok s) ls ws = ok (trees_of s ls ws)
+outcome_of (Err y) ls ws = no (unfit y)
+
+abbrev pub StillInside : ℕ → Result held.Trees Unfit → List ℕ → List ℕ → Type 0
+StillInside room (Ok s) ls ws = Inside room s ls ws
+StillInside room (Err y) ls ws = Unit {0}
 
 -- it is this outcome, and trees that it leaves are in order
-pub record Gives (room : ℕ) (r : Reduced) (ls ws : List ℕ) (o : Res Why Trees) : Type 0 where
+pub record Gives (room : ℕ) (r : Result held.Trees Unfit) (ls ws : List ℕ) (o : Res Why Trees) : Type 0 where
   pub outcome : outcome_of r ls ws ≡ o
   pub inside : StillInside room r ls ws
 
@@ -84,17 +87,21 @@ pub record Stacked (rs l : List ℕ) (s : Seek) (ws : List ℕ) : Type 0 where
   pub entries : s.depth + s.entry ≤ length l
   pub room : length l ≤ length ws
 
+-- a turn: the test goes on, or has an answer
+abbrev pub Turn : Type 0
+Turn = ControlFlow Bool Seek
+
 -- what a turn lowers
 abbrev pub weight : Seek → ℕ
 weight s = s.token + 2 * s.entry + s.depth
 
 abbrev pub answer_of : List ℕ → List ℕ → List ℕ → Turn → List ℕ → Bool
-answer_of rs ts l (On s) ws = still_of rs ts l s ws
-answer_of rs ts l (Ended b) ws = b
+answer_of rs ts l (Continue s) ws = still_of rs ts l s ws
+answer_of rs ts l (Break b) ws = b
 
 abbrev pub Lower : List ℕ → List ℕ → Seek → Turn → List ℕ → Type 0
-Lower rs l s (On q) ws = Stacked rs l q ws × (weight q < weight s) × (q.token ≤ s.token)
-Lower rs l s (Ended b) ws = Unit {0}
+Lower rs l s (Continue q) ws = Stacked rs l q ws × (weight q < weight s) × (q.token ≤ s.token)
+Lower rs l s (Break b) ws = Unit {0}
 
 -- a turn from s says b, now or in the end
 pub record Turned (rs ts l : List ℕ) (s : Seek) (b : Bool) (r : Turn) (ws : List ℕ) : Type 0 where

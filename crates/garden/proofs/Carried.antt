@@ -1,48 +1,54 @@
--- Laws of the lists of reduces that edges carry.
+-- Laws of the lists of reduces.
 use mathlib.Core.Path.{◌≡◌, refl, sym, ap, ◌∙◌}
 use mathlib.Core.Bool.{Bool, true, false, false≢true, ◌&&◌}
 use mathlib.Core.List.{List, [], ◌∷◌, ◌++◌, map, map-append, append-nil, append_assoc}
-use Prim.Native.Nat.{ℕ, zero, suc, ◌+◌, ◌≤◌, ◌<◌}
+use Prim.Native.Nat.{ℕ, zero, suc, ◌+◌, ◌-◌, ◌≤◌, ◌<◌}
 use native.Mathlib.Numerals.{add-one}
 use native.Mathlib.Omega.{arith}
 use lib.Dec.{eqb, ltb, leb}
-use lib.ListN.{length, take, drop, get_or, set, length-append, length-map, length-take, length-set, drop_of_length-le}
-use lib.Seq.{drop-drop, length-take-le, take_all, take-suc, take-suc-set, drop-cons, set_at, get_or_at, take-set-lt}
-use borrow.Author.Tests.{lt-ltb, le-ltb, le-leb, lt-leb, eq-eqb, ne_eqb, ltb-true, ltb-false, leb-false, eqb-true, eqb-false}
-use Rattle.words.specs.Outcome.{Res, ok, no, bind, when, pick}
+use lib.Pointwise.{pointwise}
+use lib.ListN.{length, take, drop, get_or, set, length-append, length-map, length-take, length-set, length-drop, drop_of_length-le}
+use lib.Seq.{length-take-le, take_all, take-suc, take-suc-set, drop-cons, set_at, get_or_at, take-set-lt}
+use borrow.Author.Tests.{lt-ltb, le-ltb, le-leb, lt-leb, eq-eqb, ne_eqb, leb-false, eqb-true, eqb-false}
+use Rattle.std.specs.Prelude.{Result, Ok, Err}
+use Rattle.words.specs.Outcome.{Res, ok, no, bind, when}
 use Rattle.words.specs.Limits.{most_offset}
 use Rattle.words.specs.Numbers.{Fault, sixth_reduce, far_offset, bad_copy}
 use Rattle.rows.specs.Rows.{Reduce, Edge}
-use Rattle.rows.specs.Code.{reduce_is, edge_is, with_reduces}
-use Rattle.rows.specs.declared.Reduce as coded
+use Rattle.rows.specs.Code.{reduce_is, reduces_are, edge_is}
+use Rattle.rows.specs.declared.reduce_list.Reduce as coded
+use Rattle.rows.specs.declared.reduce_list.Reduces.{Reduces}
 use Rattle.rows.specs.declared.Edge as held
-use Rattle.rows.specs.declared.Added.{Added}
-use Rattle.rows.proofs.Laws.{placed, place-used}
-use Rattle.tree.specs.declared.Fault.TheVariants as why
+use Rattle.rows.proofs.Laws.{place-used}
+use Rattle.tree.specs.Code.{fault_of}
+use Rattle.tree.specs.declared.Fault as why
 use Rattle.garden.specs.Garden.{low_offsets, raised, increment_offsets, raised_on, extend, diff_extend, same_reduces, store_other, leaf_reduces}
-use Rattle.garden.specs.Code.{Lists, has_rule, Carries}
+use Rattle.garden.specs.Code.{list_of, has_rule}
 use Rattle.garden.proofs.Theorems.Alone.{bind_ok}
 
--- ---- the list that an edge carries
+-- ---- the list
 
 -- as many as are counted; five places are enough for them
-pub carried-length : (e : held.Edge) → length e.reduces ≡ 5 → e.count ≤ 5 → length (edge_is e).reduces ≡ e.count
-carried-length e l h = rw (length-map, length-take-le e.count e.reduces (omega arith))
+pub carried-length : (r : Reduces) → length r.items ≡ 5 → length (reduces_are r) ≡ r.count
+carried-length r l = rw (length-map, length-take-le r.count r.items (omega (arith, r.few)))
 
--- never more than are counted
-pub carried-most : (e : held.Edge) → length (edge_is e).reduces ≤ e.count
-carried-most e = rw (length-map, length-take) (omega arith)
+pub carried-few : (r : Reduces) → length (reduces_are r) ≤ 5
+carried-few r = rw (length-map, length-take) (omega (arith, r.few))
 
-pub carried-few : (e : held.Edge) → e.count ≤ 5 → length (edge_is e).reduces ≤ 5
-carried-few e h = omega (arith, carried-most e)
+pub items-few : (r : Reduces) (items : List coded.Reduce) → map reduce_is items ≡ reduces_are r → length items ≤ 5
+items-few r items e = omega (arith, simp (length-map, length-take) at (ap length e), r.few)
 
--- what is known of an answer that is given or refused
-module _ {y : Fault} {x : Res Fault (List Reduce)} {h : held.Edge} {a : Added} (l : Lists y x h a) where
-  pub listed : a.ok ≡ true → x ≡ ok (edge_is a.edge).reduces
-  listed t = sym l.answer ∙ ap (λ (b : Bool). pick b (ok (edge_is a.edge).reduces) (no y)) t
+-- what is left after the first
+pub rest-all : (list : List coded.Reduce) → take (length list - 1) (drop 1 list) ≡ drop 1 list
+rest-all list = take_all (length list - 1) (drop 1 list) (simp length-drop (omega arith))
 
-  pub unlisted : a.ok ≡ false → x ≡ no y
-  unlisted t = sym l.answer ∙ ap (λ (b : Bool). pick b (ok (edge_is a.edge).reduces) (no y)) t
+-- what is known of an answer
+module _ (x : Res Fault (List Reduce)) (r : Result Reduces why.Fault) (e : list_of r ≡ x) where
+  pub listed : (ds : Reduces) → r ≡ Ok ds → x ≡ ok (reduces_are ds)
+  listed ds h = sym (rw h at e)
+
+  pub unlisted : (y : why.Fault) → r ≡ Err y → x ≡ no (fault_of y)
+  unlisted y h = sym (rw h at e)
 
 -- ---- a list behind another
 
@@ -73,85 +79,57 @@ unfolding extend
 extended-over ds more y e = leb-false (length (ds ++ more)) 5 (when-no (leb (length (ds ++ more)) 5) sixth_reduce y (ds ++ more) e)
 
 -- no place is free
-pub pushes-none : (e : held.Edge) (r : coded.Reduce) → length e.reduces ≡ 5 → e.count ≤ 5 → 5 ≤ e.count
-    → Lists sixth_reduce (extend (edge_is e).reduces (reduce_is r ∷ [])) e (record { ok = false; edge = e })
-pushes-none e r l f h =
-    let n = carried-length e l f in
-    let m : 5 < length ((edge_is e).reduces ++ reduce_is r ∷ []) = rw (length-append, n) (omega arith) in
-    record { answer = sym (extend-over (edge_is e).reduces (reduce_is r ∷ []) m); rest = refl; fits = f }
+pub pushes-none : (r : Reduces) (d : coded.Reduce) → length r.items ≡ 5 → 5 ≤ r.count → no sixth_reduce ≡ extend (reduces_are r) (reduce_is d ∷ [])
+pushes-none r d l h =
+    let m : 5 < length (reduces_are r ++ reduce_is d ∷ []) = rw (length-append, carried-length r l) (omega arith) in
+    sym (extend-over (reduces_are r) (reduce_is d ∷ []) m)
 
 -- a place is free
-pub pushes-one : (e : held.Edge) (r : coded.Reduce) → length e.reduces ≡ 5 → e.count < 5
-    → Lists sixth_reduce (extend (edge_is e).reduces (reduce_is r ∷ [])) e
-    (record { ok = true; edge = placed e (e.count + 1) (set e.reduces e.count r) })
-pushes-one e r l h =
-    let n = carried-length e l (omega arith) in
-    let m : length ((edge_is e).reduces ++ reduce_is r ∷ []) ≤ 5 = rw (length-append, n) (omega arith) in
-    let t : map reduce_is (take (e.count + 1) (set e.reduces e.count r)) ≡ (edge_is e).reduces ++ reduce_is r ∷ [] =
-    rw (add-one, take-suc-set e.reduces e.count r (omega arith), map-append) in
-    record {
-      answer = rw (t, extend_fits (edge_is e).reduces (reduce_is r ∷ []) m);
-      rest = refl;
-      fits = omega arith;
-    }
+pub pushes-one : (r : Reduces) (d : coded.Reduce) → length r.items ≡ 5 → r.count < 5
+    → ok (map reduce_is (take (r.count + 1) (set r.items r.count d))) ≡ extend (reduces_are r) (reduce_is d ∷ [])
+pushes-one r d l h =
+    let m : length (reduces_are r ++ reduce_is d ∷ []) ≤ 5 = rw (length-append, carried-length r l) (omega arith) in
+    rw (add-one, take-suc-set r.items r.count d (omega arith), map-append) (sym (extend_fits (reduces_are r) (reduce_is d ∷ []) m))
 
--- ---- the reduces of another edge, one by one
+-- ---- another list behind it, one reduce after another
 
--- n of them stand behind those of e
-abbrev pub Extended : held.Edge → held.Edge → ℕ → held.Edge → Type 0
-Extended e more n out = edge_is out ≡ with_reduces (edge_is e) ((edge_is e).reduces ++ take n (edge_is more).reduces)
-
-abbrev no_reduce : coded.Reduce
+abbrev pub no_reduce : coded.Reduce
 no_reduce = record { rule = record { 0 = 0 }; offset = 0 }
 
--- the last of the first k + 1
-carried-more : (e : held.Edge) (k : ℕ) → length e.reduces ≡ 5 → e.count ≤ 5 → k < e.count
-    → take (k + 1) (edge_is e).reduces ≡ take k (edge_is e).reduces ++ reduce_is (get_or e.reduces k no_reduce) ∷ []
-carried-more e k l f h =
-    rw (add-one, take-suc (edge_is e).reduces k (reduce_is no_reduce) (rw (carried-length e l f) h), place-used e k h)
+-- k of the items stand behind the first list
+abbrev pub Extended : Reduces → List coded.Reduce → ℕ → Reduces → Type 0
+Extended r items k out = reduces_are out ≡ reduces_are r ++ map reduce_is (take k items)
 
-pub extends-none : (e more : held.Edge) → Extended e more 0 e
-extends-none e more = ap (with_reduces (edge_is e)) (sym (append-nil (edge_is e).reduces))
+pub extends-none : (r : Reduces) (items : List coded.Reduce) → Extended r items 0 r
+extends-none r items = sym (append-nil (reduces_are r))
 
-module _ (e more out : held.Edge) (k : ℕ) (x : Extended e more k out) where
-  same-list : (edge_is out).reduces ≡ (edge_is e).reduces ++ take k (edge_is more).reduces
-  same-list = ap (λ (d : Edge). d.reduces) x
-
-  module _ (l : length more.reduces ≡ 5) (f : more.count ≤ 5) (h : k < more.count) (a : Added)
-      (p : Lists sixth_reduce (extend (edge_is out).reduces (reduce_is (get_or more.reduces k no_reduce) ∷ [])) out a) where
+module _ (r : Reduces) (items : List coded.Reduce) (k : ℕ) (out : Reduces) (x : Extended r items k out) where
+  module _ (h : k < length items) (p : Result Reduces why.Fault) (e : list_of p ≡ extend (reduces_are out) (reduce_is (get_or items k no_reduce) ∷ [])) where
     -- all that are in hand
-    gathered : (edge_is out).reduces ++ reduce_is (get_or more.reduces k no_reduce) ∷ [] ≡ (edge_is e).reduces ++ take (k + 1) (edge_is more).reduces
-    gathered = rw (same-list, carried-more more k l f h, append_assoc)
+    gathered : reduces_are out ++ reduce_is (get_or items k no_reduce) ∷ [] ≡ reduces_are r ++ map reduce_is (take (k + 1) items)
+    gathered = rw (x, add-one, take-suc items k no_reduce h, map-append, append_assoc)
 
-    pub extends-on : a.ok ≡ true → Extended e more (k + 1) a.edge
-    extends-on t =
-        let q : (edge_is a.edge).reduces ≡ (edge_is e).reduces ++ take (k + 1) (edge_is more).reduces =
-        extended-is (edge_is out).reduces (reduce_is (get_or more.reduces k no_reduce) ∷ []) (edge_is a.edge).reduces (listed p t) ∙ gathered in
-        p.rest ∙ λ i. with_reduces (x i) (q i)
+    pub extends-on : (next : Reduces) → p ≡ Ok next → Extended r items (k + 1) next
+    extends-on next q = extended-is (reduces_are out) (reduce_is (get_or items k no_reduce) ∷ []) (reduces_are next) (listed _ p e next q) ∙ gathered
 
-    pub extends-over : a.ok ≡ false → e.count ≤ 5 → Lists sixth_reduce (extend (edge_is e).reduces (edge_is more).reduces) e (record { ok = false; edge = e })
-    extends-over t g =
-        let m : 5 < length ((edge_is e).reduces ++ take (k + 1) (edge_is more).reduces) =
-        rw gathered at (extended-over (edge_is out).reduces (reduce_is (get_or more.reduces k no_reduce) ∷ []) sixth_reduce (unlisted p t)) in
-        let n : 5 < length ((edge_is e).reduces ++ (edge_is more).reduces) =
-        omega (
-          arith,
-          length-append (edge_is e).reduces (take (k + 1) (edge_is more).reduces),
-          length-append (edge_is e).reduces (edge_is more).reduces,
-          length-take (k + 1) (edge_is more).reduces,
-        ) in
-        record { answer = sym (extend-over (edge_is e).reduces (edge_is more).reduces n); rest = refl; fits = g }
+    fewer : length (map reduce_is (take (k + 1) items)) ≤ length (map reduce_is items)
+    fewer = rw (length-map) (rw length-map (omega (arith, length-take (k + 1) items)))
 
-  pub extends-all : more.count ≤ k → out.count ≤ 5 → Lists sixth_reduce (extend (edge_is e).reduces (edge_is more).reduces) e (record { ok = true; edge = out })
-  extends-all h g =
-      let all : (edge_is out).reduces ≡ (edge_is e).reduces ++ (edge_is more).reduces =
-      same-list ∙ ap (λ (ds : List Reduce). (edge_is e).reduces ++ ds) (take_all k (edge_is more).reduces (omega (arith, carried-most more))) in
-      let m : length ((edge_is e).reduces ++ (edge_is more).reduces) ≤ 5 = rw all at (carried-few out g) in
-      record {
-        answer = ap (λ (ds : List Reduce). ok ds) all ∙ sym (extend_fits (edge_is e).reduces (edge_is more).reduces m);
-        rest = x ∙ ap (with_reduces (edge_is e)) (sym same-list);
-        fits = g;
-      }
+    pub extends-over : (more : List Reduce) → map reduce_is items ≡ more → (y : why.Fault) → p ≡ Err y → no (fault_of y) ≡ extend (reduces_are r) more
+    extends-over more w y q =
+        let v : extend (reduces_are out) (reduce_is (get_or items k no_reduce) ∷ []) ≡ no (fault_of y) = unlisted _ p e y q in
+        let m : 5 < length (reduces_are out ++ reduce_is (get_or items k no_reduce) ∷ []) = extended-over (reduces_are out) _ (fault_of y) v in
+        let s : no (fault_of y) ≡ no sixth_reduce = sym v ∙ extend-over (reduces_are out) _ m in
+        let o : 5 < length (reduces_are r ++ map reduce_is (take (k + 1) items)) = rw gathered at m in
+        let n : 5 < length (reduces_are r ++ more) =
+        rw (← w, length-append) (omega (arith, rw length-append at o, fewer)) in
+        s ∙ sym (extend-over (reduces_are r) more n)
+
+  pub extends-all : (more : List Reduce) → map reduce_is items ≡ more → length items ≤ k → ok (reduces_are out) ≡ extend (reduces_are r) more
+  extends-all more w h =
+      let all : reduces_are out ≡ reduces_are r ++ more = x ∙ rw (take_all k items h, w) in
+      let m : length (reduces_are r ++ more) ≤ 5 = rw all at (carried-few out) in
+      rw all (sym (extend_fits (reduces_are r) more m))
 
 -- ---- offsets raised by one
 
@@ -181,75 +159,60 @@ low_end : (k : ℕ) (ds : List Reduce) → length ds ≤ k → low_offsets (drop
 unfolding low_offsets
 low_end k ds h = rw (drop_of_length-le ds {i = k} h)
 
--- the first k are raised, and the others decide whether all can be
-pub record Raised (e : held.Edge) (k : ℕ) (out : held.Edge) : Type 0 where
-  pub places : length out.reduces ≡ 5
-  pub counted : out.count ≡ e.count
-  pub gives : edge_is out ≡ with_reduces (edge_is e) (changed raised k (edge_is e).reduces)
-  pub low : low_offsets (drop k (edge_is e).reduces) ≡ low_offsets (edge_is e).reduces
-
 map-set : {A B : Type 0} (f : A → B) (l : List A) (i : ℕ) (a : A) → map f (set l i a) ≡ set (map f l) i (f a)
 map-set f [] i a = refl
 map-set f (x ∷ xs) zero a = refl
 map-set f (x ∷ xs) (suc i) a = rw (map-set f xs i a)
 
--- another reduce at a place in use
-carried-set : (e : held.Edge) (k : ℕ) (d : coded.Reduce) → k < e.count
-    → (edge_is (placed e e.count (set e.reduces k d))).reduces ≡ set (edge_is e).reduces k (reduce_is d)
-carried-set e k d h = rw (take-set-lt e.count e.reduces k d h, map-set)
+-- the first k are raised, and the others decide whether all can be
+pub record Raised (r : Reduces) (k : ℕ) (items : List coded.Reduce) : Type 0 where
+  pub places : length items ≡ 5
+  pub whole : length r.items ≡ 5
+  pub gives : map reduce_is (take r.count items) ≡ changed raised k (reduces_are r)
+  pub low : low_offsets (drop k (reduces_are r)) ≡ low_offsets (reduces_are r)
 
 abbrev pub raise : coded.Reduce → coded.Reduce
 raise d = record { rule = d.rule; offset = d.offset + 1 }
 
-pub raised-none : (e : held.Edge) → length e.reduces ≡ 5 → Raised e 0 e
-raised-none e l = record { places = l; counted = refl; gives = refl; low = refl }
+pub raised-none : (r : Reduces) → length r.items ≡ 5 → Raised r 0 r.items
+raised-none r l = record { places = l; whole = l; gives = refl; low = refl }
 
-module _ (e out : held.Edge) (k : ℕ) (x : Raised e k out) (l : length e.reduces ≡ 5) (f : e.count ≤ 5) where
-  -- the next one is as it was
-  next-is : k < e.count → reduce_is (get_or out.reduces k no_reduce) ≡ get_or (edge_is e).reduces k (reduce_is no_reduce)
-  next-is h =
-      sym (place-used out k (rw x.counted h))
-      ∙ ap (λ (d : Edge). get_or d.reduces k (reduce_is no_reduce)) x.gives
-      ∙ changed-at raised k (edge_is e).reduces (reduce_is no_reduce) (rw (carried-length e l f) h)
+module _ (r : Reduces) (k : ℕ) (items : List coded.Reduce) (x : Raised r k items) where
+  module _ (h : k < r.count) where
+    within : k < length (reduces_are r)
+    within = rw (carried-length r x.whole) h
 
-  pub raised-more : k < e.count → (get_or out.reduces k no_reduce).offset < most_offset
-      → Raised e (k + 1) (placed out out.count (set out.reduces k (raise (get_or out.reduces k no_reduce))))
-  raised-more h o =
-      let n = next-is h in
-      let g : (edge_is (placed out out.count (set out.reduces k (raise (get_or out.reduces k no_reduce))))).reduces ≡ changed raised (suc k) (edge_is e).reduces =
-      carried-set out k (raise (get_or out.reduces k no_reduce)) (rw x.counted h)
-      ∙ (λ i. set (x.gives i).reduces k (raised (n i)))
-      ∙ changed-more raised k (edge_is e).reduces (reduce_is no_reduce) (rw (carried-length e l f) h) in
-      let t : ltb (get_or (edge_is e).reduces k (reduce_is no_reduce)).offset most_offset ≡ true = rw (← n) (lt-ltb (get_or out.reduces k no_reduce).offset most_offset o) in
-      let s = low_step k (edge_is e).reduces (reduce_is no_reduce) (rw (carried-length e l f) h) in
-      rw (add-one k) (record {
-        places = rw length-set x.places;
-        counted = x.counted;
-        gives = λ i. with_reduces (x.gives i) (g i);
-        low = sym (rw t at s) ∙ x.low;
-      })
+    -- the next one is as it was
+    next-is : reduce_is (get_or items k no_reduce) ≡ get_or (reduces_are r) k (reduce_is no_reduce)
+    next-is =
+        let now : Reduces = record { count = r.count; items = items; few = r.few } in
+        sym (place-used now k h) ∙ ap (λ (ds : List Reduce). get_or ds k (reduce_is no_reduce)) x.gives ∙ changed-at raised k (reduces_are r) (reduce_is no_reduce) within
 
-  pub raises-not : k < e.count → most_offset ≤ (get_or out.reduces k no_reduce).offset
-      → Lists far_offset (increment_offsets (edge_is e).reduces) e (record { ok = false; edge = e })
-  unfolding increment_offsets when
-  raises-not h o =
-      let t : ltb (get_or (edge_is e).reduces k (reduce_is no_reduce)).offset most_offset ≡ false =
-      rw (← next-is h) (le-ltb (get_or out.reduces k no_reduce).offset most_offset o) in
-      let b : low_offsets (edge_is e).reduces ≡ false =
-      sym x.low ∙ rw t at (low_step k (edge_is e).reduces (reduce_is no_reduce) (rw (carried-length e l f) h)) in
-      record { answer = rw b; rest = refl; fits = f }
+    pub raised-more : (get_or items k no_reduce).offset < most_offset → Raised r (k + 1) (set items k (raise (get_or items k no_reduce)))
+    raised-more o =
+        let n = next-is in
+        let g : map reduce_is (take r.count (set items k (raise (get_or items k no_reduce)))) ≡ changed raised (suc k) (reduces_are r) =
+        rw (take-set-lt r.count items k (raise (get_or items k no_reduce)) h, map-set)
+        (ap (λ (ds : List Reduce). set ds k (raised (reduce_is (get_or items k no_reduce)))) x.gives
+        ∙ ap (λ (d : Reduce). set (changed raised k (reduces_are r)) k (raised d)) n
+        ∙ changed-more raised k (reduces_are r) (reduce_is no_reduce) within) in
+        let t : ltb (get_or (reduces_are r) k (reduce_is no_reduce)).offset most_offset ≡ true = rw (← n) (lt-ltb (get_or items k no_reduce).offset most_offset o) in
+        let s = low_step k (reduces_are r) (reduce_is no_reduce) within in
+        rw (add-one k) (record { places = rw length-set x.places; whole = x.whole; gives = g; low = sym (rw t at s) ∙ x.low })
 
-  pub raises-all : e.count ≤ k → Lists far_offset (increment_offsets (edge_is e).reduces) e (record { ok = true; edge = out })
+    pub raises-not : most_offset ≤ (get_or items k no_reduce).offset → no far_offset ≡ increment_offsets (reduces_are r)
+    unfolding increment_offsets when
+    raises-not o =
+        let t : ltb (get_or (reduces_are r) k (reduce_is no_reduce)).offset most_offset ≡ false = rw (← next-is) (le-ltb (get_or items k no_reduce).offset most_offset o) in
+        let b : low_offsets (reduces_are r) ≡ false = sym x.low ∙ rw t at (low_step k (reduces_are r) (reduce_is no_reduce) within) in
+        rw b
+
+  pub raises-all : r.count ≤ k → ok (map reduce_is (take r.count items)) ≡ increment_offsets (reduces_are r)
   unfolding increment_offsets when
   raises-all h =
-      let n : length (edge_is e).reduces ≤ k = rw (carried-length e l f) h in
-      let b : low_offsets (edge_is e).reduces ≡ true = sym x.low ∙ low_end k (edge_is e).reduces n in
-      let g : (edge_is out).reduces ≡ map raised (edge_is e).reduces = ap (λ (d : Edge). d.reduces) x.gives ∙ changed-all raised k (edge_is e).reduces n in
-      record {
-        answer = rw (b, g);
-        rest = x.gives ∙ ap (with_reduces (edge_is e)) (sym (ap (λ (d : Edge). d.reduces) x.gives));
-        fits = rw x.counted f;
-      }
+      let n : length (reduces_are r) ≤ k = rw (carried-length r x.whole) h in
+      let b : low_offsets (reduces_are r) ≡ true = sym x.low ∙ low_end k (reduces_are r) n in
+      rw (b, x.gives, changed-all raised k (reduces_are r) n)
 
 pub raised-zero : (k : ℕ) (ds : List Reduce) → k ≡ 0 → raised_on k ds ≡ ok ds
 unfolding raised_on
@@ -260,55 +223,22 @@ unfolding raised_on
 raised-other zero ds h = absurd (h refl)
 raised-other (suc k) ds h = refl
 
--- ---- rules and equal lists
+-- ---- the reduces that another list lacks
 
--- what is left from place k on
-carried-next : (e : held.Edge) (k : ℕ) → length e.reduces ≡ 5 → e.count ≤ 5 → k < e.count
-    → drop k (edge_is e).reduces ≡ reduce_is (get_or e.reduces k no_reduce) ∷ drop (suc k) (edge_is e).reduces
-carried-next e k l f h = rw (drop-cons (edge_is e).reduces k (reduce_is no_reduce) (rw (carried-length e l f) h), place-used e k h)
-
-pub no-rule : (e : held.Edge) (k r : ℕ) → e.count ≤ k → has_rule r (drop k (edge_is e).reduces) ≡ false
+pub no-rule : (r : ℕ) (list : List coded.Reduce) → length list < 1 → false ≡ has_rule r (map reduce_is list)
 unfolding has_rule
-no-rule e k r h = rw (drop_of_length-le (edge_is e).reduces {i = k} (omega (arith, carried-most e)))
+no-rule r [] h = refl
+no-rule r (c ∷ cs) h = absurd (omega arith)
 
-pub has-rule : (e : held.Edge) (k r : ℕ) → length e.reduces ≡ 5 → e.count ≤ 5 → k < e.count
-    → has_rule r (drop k (edge_is e).reduces) ≡ eqb (get_or e.reduces k no_reduce).rule.0 r
+pub first-rule : (r : ℕ) (list : List coded.Reduce) → 1 ≤ length list → eqb (get_or list 0 no_reduce).rule.0 r ≡ has_rule r (map reduce_is list)
 unfolding has_rule
-has-rule e k r l f h = rw (carried-next e k l f h)
+first-rule r [] h = absurd (omega arith)
+first-rule r (c ∷ cs) h = refl
 
-last-false : (a b : Bool) → a && b && false ≡ false
-last-false true true = refl
-last-false true false = refl
-last-false false b = refl
-
-same-apart : (cs ds : List Reduce) → (length cs ≡ length ds → ⊥) → same_reduces cs ds ≡ false
-unfolding same_reduces
-same-apart [] [] h = absurd (h refl)
-same-apart [] (d ∷ ds) h = refl
-same-apart (c ∷ cs) [] h = refl
-same-apart (c ∷ cs) (d ∷ ds) h = rw (same-apart cs ds (λ e. h (ap (λ (n : ℕ). suc n) e))) (last-false (eqb c.rule d.rule) (eqb c.offset d.offset))
-
-module _ (a b : held.Edge) (l : length a.reduces ≡ 5) (m : length b.reduces ≡ 5) (f : a.count ≤ 5) (g : b.count ≤ 5) where
-  pub same_not : (a.count ≡ b.count → ⊥) → same_reduces (edge_is a).reduces (edge_is b).reduces ≡ false
-  same_not h = same-apart (edge_is a).reduces (edge_is b).reduces (λ e. h (sym (carried-length a l f) ∙ e ∙ carried-length b m g))
-
-  pub same_step : (k : ℕ) → a.count ≡ b.count → k < a.count
-      → same_reduces (drop k (edge_is a).reduces) (drop k (edge_is b).reduces)
-      ≡ eqb (get_or a.reduces k no_reduce).rule.0 (get_or b.reduces k no_reduce).rule.0
-      && eqb (get_or a.reduces k no_reduce).offset (get_or b.reduces k no_reduce).offset
-      && same_reduces (drop (k + 1) (edge_is a).reduces) (drop (k + 1) (edge_is b).reduces)
-  unfolding same_reduces
-  same_step k e h = rw (carried-next a k l f h, carried-next b k m g (omega arith), add-one)
-
-  pub same_end : (k : ℕ) → a.count ≡ b.count → a.count ≤ k → same_reduces (drop k (edge_is a).reduces) (drop k (edge_is b).reduces) ≡ true
-  unfolding same_reduces
-  same_end k e h =
-      rw (
-        drop_of_length-le (edge_is a).reduces {i = k} (omega (arith, carried-most a)),
-        drop_of_length-le (edge_is b).reduces {i = k} (omega (arith, carried-most b)),
-      )
-
--- ---- the reduces that another edge lacks
+pub some-rule : (r : ℕ) (list : List coded.Reduce) → has_rule r (map reduce_is list) ≡ true → 1 ≤ length list
+unfolding has_rule
+some-rule r [] h = absurd (false≢true h)
+some-rule r (c ∷ cs) h = omega arith
 
 diff-has : (d : Reduce) (ds es : List Reduce) → has_rule d.rule es ≡ true → diff_extend (d ∷ ds) es ≡ diff_extend ds (drop 1 es)
 unfolding diff_extend has_rule
@@ -321,86 +251,100 @@ diff-lacks d [] [] h = refl
 diff-lacks d (c ∷ ds) [] h = refl
 diff-lacks d ds (c ∷ cs) h = rw (ne_eqb d.rule c.rule (λ e. eqb-false c.rule d.rule h (sym e)), diff_extend)
 
+map-rest : (list : List coded.Reduce) → map reduce_is (drop 1 list) ≡ drop 1 (map reduce_is list)
+map-rest [] = refl
+map-rest (c ∷ cs) = refl
+
 bind-behind : (x : Res Fault (List Reduce)) (ds : List Reduce) (d : Reduce)
     → bind (bind x (λ more. ok (d ∷ more))) (λ more. ok (ds ++ more)) ≡ bind x (λ more. ok ((ds ++ d ∷ []) ++ more))
 unfolding bind
 bind-behind (ok more) ds d = rw (append_assoc ds (d ∷ []) more)
 bind-behind (no y) ds d = refl
 
-given-list : (b : Bool) (zs ds : List Reduce) (y : Fault) → pick b (ok zs) (no y) ≡ ok ds → zs ≡ ds
-given-list true zs ds y e = cc
-given-list false zs ds y e = absurd (let z : ◌≡◌ {A = ℕ} 0 1 = cc in omega arith)
+-- of the first k of f, some were matched and the others are carried; what is left decides
+pub record Differs (f : List coded.Reduce) (es : List Reduce) (out : Reduces) (left : List coded.Reduce) (k : ℕ) : Type 0 where
+  pub k-in : k ≤ length f
+  pub few : length f ≤ 5
+  pub short : length (reduces_are out) ≤ k
+  pub same : bind (diff_extend (map reduce_is (drop k f)) (map reduce_is left)) (λ more. ok (reduces_are out ++ more)) ≡ diff_extend (map reduce_is f) es
 
-rule-below : (e : held.Edge) (j r : ℕ) → has_rule r (drop j (edge_is e).reduces) ≡ true → j < e.count
-rule-below e j r h = by (ltb j e.count) refl
-  where
-    by : (b : Bool) → ltb j e.count ≡ b → j < e.count
-    by true t = ltb-true j e.count t
-    by false t = absurd (false≢true (sym (no-rule e j r (ltb-false j e.count t)) ∙ h))
+pub differs-none : (f left : List coded.Reduce) (es : List Reduce) (out : Reduces) → length f ≤ 5 → map reduce_is left ≡ es → reduces_are out ≡ [] → Differs f es out left 0
+differs-none f left es out m e h = record {
+  k-in = omega arith;
+  few = m;
+  short = rw h (omega arith);
+  same = rw (e, h) (bind_ok (diff_extend (map reduce_is f) es));
+}
 
--- of the first k of f, j were matched and the others are carried; what is left decides
-pub record Differs (f e out : held.Edge) (j k : ℕ) : Type 0 where
-  pub k-in : k ≤ f.count
-  pub j-in : j ≤ e.count
-  pub few : out.count ≤ 5
-  pub short : length (edge_is out).reduces ≤ k
-  pub rest : edge_is out ≡ with_reduces (edge_is f) (edge_is out).reduces
-  pub left : bind (diff_extend (drop k (edge_is f).reduces) (drop j (edge_is e).reduces)) (λ more. ok ((edge_is out).reduces ++ more))
-      ≡ diff_extend (edge_is f).reduces (edge_is e).reduces
+module _ (f : List coded.Reduce) (es : List Reduce) (out : Reduces) (left : List coded.Reduce) (k : ℕ) (x : Differs f es out left k) where
+  module _ (h : k < length f) where
+    abbrev here : coded.Reduce
+    here = get_or f k no_reduce
 
-pub differs_none : (f e : held.Edge) → Differs f e (placed f 0 f.reduces) 0 0
-differs_none f e =
-    record {
+    next-left : map reduce_is (drop k f) ≡ reduce_is here ∷ map reduce_is (drop (k + 1) f)
+    next-left = rw (drop-cons f k no_reduce h, add-one)
+
+    pub differs-matched : has_rule here.rule.0 (map reduce_is left) ≡ true → Differs f es out (drop 1 left) (k + 1)
+    differs-matched t = record {
       k-in = omega arith;
-      j-in = omega arith;
-      few = omega arith;
-      short = omega arith;
-      rest = refl;
-      left = bind_ok (diff_extend (edge_is f).reduces (edge_is e).reduces);
+      few = x.few;
+      short = omega (arith, x.short);
+      same = rw (map-rest left) (rw (next-left, diff-has (reduce_is here) (map reduce_is (drop (k + 1) f)) (map reduce_is left) t) at x.same);
     }
 
-module _ (f e out : held.Edge) (j k : ℕ) (x : Differs f e out j k) where
-  module _ (l : length f.reduces ≡ 5) (w : f.count ≤ 5) (h : k < f.count) where
-    pub differs-matched : has_rule (get_or f.reduces k no_reduce).rule.0 (drop j (edge_is e).reduces) ≡ true → Differs f e out (j + 1) (k + 1)
-    differs-matched t =
-        let d = reduce_is (get_or f.reduces k no_reduce) in
-        let b : j < e.count = rule-below e j d.rule t in
-        let s : diff_extend (drop k (edge_is f).reduces) (drop j (edge_is e).reduces) ≡ diff_extend (drop (k + 1) (edge_is f).reduces) (drop (j + 1) (edge_is e).reduces) =
-        rw (carried-next f k l w h, diff-has d (drop (suc k) (edge_is f).reduces) (drop j (edge_is e).reduces) t, drop-drop 1 j (edge_is e).reduces, add-one k) in
-        record { k-in = omega arith; j-in = omega arith; few = x.few; short = omega (arith, x.short); rest = x.rest; left = rw s at x.left }
+    module _ (p : Result Reduces why.Fault) (e : list_of p ≡ extend (reduces_are out) (reduce_is here ∷ [])) where
+      room : length (reduces_are out ++ reduce_is here ∷ []) ≤ 5
+      room = rw length-append (omega (arith, x.short, x.few))
 
-    pub differs-lacks : (a : Added) → Lists sixth_reduce (extend (edge_is out).reduces (reduce_is (get_or f.reduces k no_reduce) ∷ [])) out a
-        → has_rule (get_or f.reduces k no_reduce).rule.0 (drop j (edge_is e).reduces) ≡ false → Differs f e a.edge j (k + 1)
-    differs-lacks a p t =
-        let d = reduce_is (get_or f.reduces k no_reduce) in
-        let n : length ((edge_is out).reduces ++ d ∷ []) ≤ k + 1 = rw length-append (omega (arith, x.short)) in
-        let q : (edge_is a.edge).reduces ≡ (edge_is out).reduces ++ d ∷ [] =
-        given-list a.ok (edge_is a.edge).reduces ((edge_is out).reduces ++ d ∷ []) sixth_reduce
-        (p.answer ∙ extend_fits (edge_is out).reduces (d ∷ []) (omega arith)) in
-        let s : diff_extend (drop k (edge_is f).reduces) (drop j (edge_is e).reduces)
-        ≡ bind (diff_extend (drop (k + 1) (edge_is f).reduces) (drop j (edge_is e).reduces)) (λ more. ok (d ∷ more)) =
-        rw (carried-next f k l w h, diff-lacks d (drop (suc k) (edge_is f).reduces) (drop j (edge_is e).reduces) t, add-one k) in
-        record {
-          k-in = omega arith;
-          j-in = x.j-in;
-          few = p.fits;
-          short = rw q n;
-          rest = p.rest ∙ ap (λ (r : Edge). with_reduces r (edge_is a.edge).reduces) x.rest;
-          left = rw q (sym (bind-behind (diff_extend (drop (k + 1) (edge_is f).reduces) (drop j (edge_is e).reduces)) (edge_is out).reduces d) ∙ rw s at x.left);
-        }
+      pub differs-carried : (next : Reduces) → p ≡ Ok next → has_rule here.rule.0 (map reduce_is left) ≡ false → Differs f es next left (k + 1)
+      differs-carried next q lacks =
+          let n : reduces_are next ≡ reduces_are out ++ reduce_is here ∷ [] = extended-is (reduces_are out) _ (reduces_are next) (listed _ p e next q) in
+          record {
+            k-in = omega arith;
+            few = x.few;
+            short = rw (n, length-append) (omega (arith, x.short));
+            same = rw n (sym (bind-behind (diff_extend (map reduce_is (drop (k + 1) f)) (map reduce_is left)) (reduces_are out) (reduce_is here))
+                ∙ (rw (next-left, diff-lacks (reduce_is here) (map reduce_is (drop (k + 1) f)) (map reduce_is left) lacks) at x.same));
+          }
 
-  module _ (m : length e.reduces ≡ 5) (w : e.count ≤ 5) (h : f.count ≤ k) where
-    ended : (b : Bool) → eqb j e.count ≡ b → pick b (ok (edge_is out).reduces) (no bad_copy) ≡ diff_extend (edge_is f).reduces (edge_is e).reduces
+      -- there is room for it
+      pub carries-fits : (y : why.Fault) → p ≡ Err y → ⊥
+      carries-fits y q =
+          let v : ok (reduces_are out ++ reduce_is here ∷ []) ≡ no (fault_of y) = sym (extend_fits (reduces_are out) _ room) ∙ unlisted _ p e y q in
+          let z : ◌≡◌ {A = ℕ} 0 1 = cc in
+          omega arith
+
+  module _ (h : length f ≤ k) where
+    ended : bind (diff_extend [] (map reduce_is left)) (λ more. ok (reduces_are out ++ more)) ≡ diff_extend (map reduce_is f) es
+    ended = rw (drop_of_length-le f {i = k} h) at x.same
+
+    pub differs-all : length left ≡ 0 → ok (reduces_are out) ≡ diff_extend (map reduce_is f) es
     unfolding diff_extend bind
-    ended true t =
-        let u = drop_of_length-le (edge_is e).reduces {i = j} (omega (arith, carried-most e, eqb-true j e.count t)) in
-        rw (drop_of_length-le (edge_is f).reduces {i = k} (omega (arith, carried-most f)), u, append-nil) at x.left
-    ended false t =
-        let v : j < e.count = omega (arith, x.j-in, eqb-false j e.count t) in
-        rw (drop_of_length-le (edge_is f).reduces {i = k} (omega (arith, carried-most f)), carried-next e j m w v) at x.left
+    differs-all t = by left t ended
+      where
+        by : (left : List coded.Reduce) → length left ≡ 0 → bind (diff_extend [] (map reduce_is left)) (λ more. ok (reduces_are out ++ more)) ≡ diff_extend (map reduce_is f) es
+            → ok (reduces_are out) ≡ diff_extend (map reduce_is f) es
+        by [] t e = rw append-nil at e
+        by (c ∷ cs) t e = absurd (omega arith)
 
-    pub differs-all : Lists bad_copy (diff_extend (edge_is f).reduces (edge_is e).reduces) f (record { ok = eqb j e.count; edge = out })
-    differs-all = record { answer = ended (eqb j e.count) refl; rest = x.rest; fits = x.few }
+    pub differs-over : 0 < length left → no bad_copy ≡ diff_extend (map reduce_is f) es
+    unfolding diff_extend bind
+    differs-over t = by left t ended
+      where
+        by : (left : List coded.Reduce) → 0 < length left → bind (diff_extend [] (map reduce_is left)) (λ more. ok (reduces_are out ++ more)) ≡ diff_extend (map reduce_is f) es
+            → no bad_copy ≡ diff_extend (map reduce_is f) es
+        by [] t e = absurd (omega arith)
+        by (c ∷ cs) t e = e
+
+-- ---- equal lists
+
+pub same-pairs : (E : coded.Reduce → coded.Reduce → Bool) → ((c d : coded.Reduce) → E c d ≡ eqb c.rule.0 d.rule.0 && eqb c.offset d.offset)
+    → (cs ds : List coded.Reduce) → pointwise E cs ds ≡ same_reduces (map reduce_is cs) (map reduce_is ds)
+unfolding same_reduces
+same-pairs E e [] [] = refl
+same-pairs E e [] (d ∷ ds) = refl
+same-pairs E e (c ∷ cs) [] = refl
+same-pairs E e (c ∷ cs) (d ∷ ds) = rw (e c d, same-pairs E e cs ds)
 
 -- ---- a list stored where others are there
 
@@ -415,37 +359,28 @@ store-more ds e d h = rw (h, store_other)
 -- ---- what a row to a leaf carries
 
 module _ (r : ℕ) (e : held.Edge) (ds : List Reduce) where
-  pub leaf-far : raised_on e.kind ds ≡ no far_offset → e.count ≤ 5
-      → Carries (leaf_reduces r (edge_is e) ds) e (record { ok = false; why = why.FarOffset; edge = e })
-  unfolding leaf_reduces bind
-  leaf-far h f = record { answer = rw h; rest = refl; fits = f }
+  abbrev last : List Reduce
+  last = record { rule = r; offset = 0 } ∷ []
 
-  module _ (zs : List Reduce) (h : raised_on e.kind ds ≡ ok zs) where
-    pub leaf-full : extend (edge_is e).reduces zs ≡ no sixth_reduce → e.count ≤ 5
-        → Carries (leaf_reduces r (edge_is e) ds) e (record { ok = false; why = why.SixthReduce; edge = e })
+  pub leaf-far : (y : Fault) → raised_on e.key.kind ds ≡ no y → no y ≡ leaf_reduces r (edge_is e) ds
+  unfolding leaf_reduces bind
+  leaf-far y h = rw h
+
+  module _ (zs : List Reduce) (h : raised_on e.key.kind ds ≡ ok zs) where
+    pub leaf-full : (y : Fault) → extend (reduces_are e.reduces) zs ≡ no y → no y ≡ leaf_reduces r (edge_is e) ds
     unfolding leaf_reduces bind
-    leaf-full x f =
-        let last : List Reduce = record { rule = r; offset = 0 } ∷ [] in
-        let m : 5 < length ((edge_is e).reduces ++ (zs ++ last)) =
+    leaf-full y x =
+        let o : 5 < length (reduces_are e.reduces ++ zs) = extended-over (reduces_are e.reduces) zs y x in
+        let m : 5 < length (reduces_are e.reduces ++ (zs ++ last)) =
         omega (
           arith,
-          extended-over (edge_is e).reduces zs sixth_reduce x,
-          length-append (edge_is e).reduces zs,
-          length-append (edge_is e).reduces (zs ++ last),
+          o,
+          length-append (reduces_are e.reduces) zs,
+          length-append (reduces_are e.reduces) (zs ++ last),
           length-append zs last,
         ) in
-        record { answer = rw (h, extend-over (edge_is e).reduces (zs ++ last) m); rest = refl; fits = f }
+        rw (h, extend-over (reduces_are e.reduces) (zs ++ last) m) (sym x ∙ extend-over (reduces_are e.reduces) zs o)
 
-    pub leaf-row : (row : held.Edge) → extend (edge_is e).reduces zs ≡ ok (edge_is row).reduces → edge_is row ≡ with_reduces (edge_is e) (edge_is row).reduces
-        → (a : Added) → Lists sixth_reduce (extend (edge_is row).reduces (record { rule = r; offset = 0 } ∷ [])) row a
-        → Carries (leaf_reduces r (edge_is e) ds) e (record { ok = a.ok; why = why.SixthReduce; edge = a.edge })
+    pub leaf-listed : (own : List Reduce) → extend (reduces_are e.reduces) zs ≡ ok own → extend own last ≡ leaf_reduces r (edge_is e) ds
     unfolding leaf_reduces bind extend
-    leaf-row row x s a p =
-        let last : List Reduce = record { rule = r; offset = 0 } ∷ [] in
-        let q : extend (edge_is row).reduces last ≡ extend (edge_is e).reduces (zs ++ last) =
-        rw (extended-is (edge_is e).reduces zs (edge_is row).reduces x, append_assoc (edge_is e).reduces zs last) in
-        record {
-          answer = p.answer ∙ q ∙ rw h;
-          rest = p.rest ∙ ap (λ (d : Edge). with_reduces d (edge_is a.edge).reduces) s;
-          fits = p.fits;
-        }
+    leaf-listed own x = rw (h, extended-is (reduces_are e.reduces) zs own x, append_assoc (reduces_are e.reduces) zs last)

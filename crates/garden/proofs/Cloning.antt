@@ -1,8 +1,7 @@
 -- Laws of clones: the rows that stood stay, and a frame stands for a clone that has begun.
 use mathlib.Core.Path.{◌≡◌, refl, sym, ap, ◌∙◌}
-use mathlib.Core.Bool.{Bool, true, false}
 use mathlib.Core.List.{List, [], ◌∷◌, map}
-use mathlib.Core.Option.{Option, some, none}
+use mathlib.Core.Option as math
 use Prim.Native.Nat.{ℕ, zero, suc, ◌+◌, ◌*◌, ◌-◌, ◌/◌, ◌≤◌, ◌<◌}
 use native.Mathlib.Numerals.{add-one}
 use native.Mathlib.Omega.{arith}
@@ -10,50 +9,31 @@ use lib.ListN.{length, take, length-map}
 use lib.Seq.{length-take-le, take_at, drop_at}
 use borrow.Author.Tests.{lt-ltb, le-ltb}
 use Rattle.words.specs.Limits.{most_edges, most_taken, row_width, most_reduces}
-use Rattle.words.specs.Outcome.{Res, ok, no, bind, when, pick}
+use Rattle.words.specs.Outcome.{Res, ok, no, bind, when}
 use Rattle.words.specs.Numbers.{Fault, many_rows}
 use Rattle.rules.proofs.Theorems.Every.{All, all_map}
 use Rattle.rows.specs.Rows.{Edge, edge_of, rows_from, row_words}
-use Rattle.rows.specs.Code.{edge_is, Holds, row_at, written}
+use Rattle.rows.specs.Code.{reduces_are, edge_is, Holds, row_at, written}
 use Rattle.rows.proofs.Theorems.Words.{row-length, row_back}
 use Rattle.rows.proofs.Theorems.Lookup.{same_rows}
 use Rattle.rows.proofs.Theorems.Put.{written-length}
 use Rattle.rows.specs.declared.Edge as held
-use Rattle.rows.specs.declared.Found.{Found}
-use Rattle.rows.specs.declared.Found.TheVariants.{Row, Nothing}
 use Rattle.tree.specs.Grow.{Grown}
-use Rattle.tree.specs.Code.{room_of, fault_of, grown_of, Stands, Meets}
+use Rattle.tree.specs.Code.{Grew, room_of, fault_of, grown_of, Stands, Meets}
 use Rattle.tree.specs.declared.Counts.{Counts}
 use Rattle.tree.specs.declared.Room as lent
 use Rattle.tree.specs.declared.Fault as why
 use Rattle.tree.specs.declared.Fault.TheVariants as code
-use Rattle.tree.specs.declared.Grew.{Grew}
-use Rattle.tree.specs.declared.Grew.TheVariants.{On, Refused}
+use Rattle.std.specs.Prelude.{Option, Some, None, Ok, Err}
 use Rattle.tree.proofs.Laws.{row-readable, read-leads}
-use Rattle.garden.specs.Garden.{Bounds, Cloning, Begun, Taken, take_up, begin, clones, clone_branches}
-use Rattle.garden.specs.Code.{rest_from, NextAt, Nexts, Kept, Keeps, cloning_of, taken_of, StillTaken, Takes, frame_is, begun_of, frames_in, begun_in, FrameOk, bounds_of, Staged, stage_of, turned_of, turns_left, Turns, first_frame, Begins, taking, CanBegin, AfterRow}
+use Rattle.garden.specs.Garden.{Bounds, Begun, Taken, take_up, begin, clones, clone_branches}
+use Rattle.garden.specs.Code.{Turned, rest_from, NextAt, Nexts, Kept, cloning_of, next_of, Took, taken_of, NextIn, Takes, TakesKeeping, frame_is, begun_of, frames_in, begun_in, FrameOk, bounds_of, Staged, stage_of, turned_of, turns_left, Turns, first_frame, Begins, BeginsNext, taking, AfterRow}
 use Rattle.garden.specs.declared.row.Taken as row
+use Rattle.garden.specs.declared.row.Cloning.{Cloning}
 use Rattle.garden.specs.declared.clones.Frame as held-frame
 use Rattle.garden.specs.declared.clones.Stage.{Stage}
-use Rattle.garden.specs.declared.clones.Turned.{Turned}
-use Rattle.garden.specs.declared.clones.Turned.TheVariants as turned
 use Rattle.garden.proofs.Carried.{carried-few}
 use Rattle.garden.proofs.Copying.{stood-kept, rest_all}
-
--- ---- after a row, by what came of it
-
-module _ (s : Stage) (g : Grew) (b : Bool) (e : held.Edge) (fs gs : List ℕ) where
-  pub row-alone : (c : Counts) → g ≡ On c → b ≡ false → gs ≡ fs → AfterRow s g b e (turned.On (taking s c)) fs gs
-  row-alone c h t k = rw (h, t) (refl, k)
-
-  pub row-begins : (c : Counts) (r : Turned) → g ≡ On c → b ≡ true → Begins (taking s c) e r fs gs → AfterRow s g b e r fs gs
-  row-begins c r h t k = rw (h, t) k
-
-  pub row-refused : (y : why.Fault) → g ≡ Refused y → AfterRow s g b e (turned.Refused y) fs gs
-  row-refused y h = rw h refl
-
-pub can-begin : (g : Grew) (e : held.Edge) (c : Counts) → g ≡ On c → CanBegin g e → (e.count ≤ most_reduces) × (c.edges ≤ most_edges)
-can-begin g e c h k = rw h at k
 
 -- ---- the rows that stood
 
@@ -133,20 +113,20 @@ module _ (b : Bounds) (t k : ℕ) (g : Grown) where
 -- ---- a clone begins
 
 -- a stage whose counts stand, and another clone
-module _ (z : lent.Room) (b : Bounds) (t : ℕ) (s : Stage) (e : held.Edge) (ns es fs gs : List ℕ) (o : Staged z t s ns es fs) (wide : b.frames ≡ length fs / row_width) where
+module _ (z : lent.Room) (b : Bounds) (t : ℕ) (s : Stage) (e : Cloning) (ns es fs gs : List ℕ) (o : Staged z t s ns es fs) (wide : b.frames ≡ length fs / row_width) where
   abbrev pub begun_then : Res Fault Grown
-  begun_then = bind (begin b.frames (grown_of s.counts ns es) (some (cloning_of e)) (begun_in (rows_from s.counts.edges es) s.depth fs)) λ cs. clones b t s.left cs (grown_of s.counts ns es)
+  begun_then = bind (begin b.frames (grown_of s.counts ns es) (math.some (cloning_of e)) (begun_in (rows_from s.counts.edges es) s.depth fs)) λ cs. clones b t s.left cs (grown_of s.counts ns es)
 
   many : length (begun_in (rows_from s.counts.edges es) s.depth fs) ≡ s.depth
   many = rw length-map (frames-count s.depth fs)
 
-  pub begin-refused : (y : why.Fault) → Begins s e (turned.Refused y) fs gs → no (fault_of y) ≡ begun_then
+  pub begin-refused : (y : why.Fault) → Begins s e (Err y) fs gs → no (fault_of y) ≡ begun_then
   unfolding bind begin when
   begin-refused y h = rw (many, wide, le-ltb s.depth (length fs / 16) h.0, h.1)
 
-  module _ (v : Stage) (h : Begins s e (turned.On v) fs gs) (to : e.to.0 < s.counts.nodes) (few : e.count ≤ most_reduces) where
+  module _ (v : Stage) (h : Begins s e (Ok v) fs gs) (to : e.to.0 < s.counts.nodes) where
     new-frames : frames_in (s.depth + 1) gs ≡ first_frame s e ∷ frames_in s.depth fs
-    new-frames = rw h.2 (frame-written fs s.depth (first_frame s e) h.0 (carried-few e few))
+    new-frames = rw h.2 (frame-written fs s.depth (first_frame s e) h.0 (carried-few e.stored))
 
     pub begin-goes-on : stage_of b t v ns es gs ≡ begun_then
     unfolding bind begin when
@@ -160,7 +140,7 @@ module _ (z : lent.Room) (b : Bounds) (t : ℕ) (s : Stage) (e : held.Edge) (ns 
           shadow-in = o.shadow-in;
           few = o.few;
           depth-in = rw (h.2, same) (omega (arith, h.0));
-          frames = rw new-frames (record { to_in = to; stood-in = omega arith; few = carried-few e few }, o.frames);
+          frames = rw new-frames (record { to_in = to; stood-in = omega arith; few = carried-few e.stored }, o.frames);
         })
 
 -- ---- the clone on top takes up its next row
@@ -181,7 +161,7 @@ module _ (z : lent.Room) (t : ℕ) (s : Stage) (f : held-frame.Frame) (ns es fs 
   -- it is done
   pub top-done : rest_from f.clone.from.0 f.stood f.place (rows_from s.counts.edges es) ≡ []
       → let b = bounds_of z (length fs) in
-      Turns z b t (turns_left s) (stage_of b t s ns es fs) (turned.On (record { counts = s.counts; depth = s.depth - 1; left = s.left })) ns es fs
+      Turns z b t (turns_left s) (stage_of b t s ns es fs) (Ok (record { counts = s.counts; depth = s.depth - 1; left = s.left })) ns es fs
   top-done e = record {
     answer = rw frames-are (sym (clone-done _ t s.left _ (begun_of (rows_from s.counts.edges es) (frame_is f)) _ e));
     staged = (
@@ -190,15 +170,15 @@ module _ (z : lent.Room) (t : ℕ) (s : Stage) (f : held-frame.Frame) (ns es fs 
     );
   }
 
-  module _ (at : ℕ) (x : NextAt s.counts f.clone.from.0 f.stood f.place es at) where
+  module _ (at : ℕ) (next : NextAt s.counts f.clone.from.0 f.stood f.place es at) where
     pub many-taken : s.left ≡ 0
         → let b = bounds_of z (length fs) in
-        Turns z b t (turns_left s) (stage_of b t s ns es fs) (turned.Refused code.ManyRows) ns es fs
-    many-taken e = record { answer = rw frames-are (sym (clone-many _ t s.left _ (begun_of (rows_from s.counts.edges es) (frame_is f)) _ _ _ x.rows e)); staged = tt }
+        Turns z b t (turns_left s) (stage_of b t s ns es fs) (Err code.ManyRows) ns es fs
+    many-taken e = record { answer = rw frames-are (sym (clone-many _ t s.left _ (begun_of (rows_from s.counts.edges es) (frame_is f)) _ _ _ next.rows e)); staged = tt }
 
-    module _ (h : held.Edge) (reads : Holds h (edge_of (row_at es at))) (u : row.Taken) (ns' es' : List ℕ)
-        (w : Takes z (take_up (room_of z) t f.clone.to.0 (edge_is f.clone).reduces (grown_of s.counts ns es) (edge_is h)) u ns' es')
-        (v : Keeps s.counts es u.grew es') (few : f.clone.count ≤ most_reduces) (left : 0 < s.left) where
+    module _ (h : held.Edge) (reads : Holds h (edge_of (row_at es at))) (x : Took) (ns' es' : List ℕ)
+        (w : Takes z (take_up (room_of z) t f.clone.to.0 (reduces_are f.clone.stored) (grown_of s.counts ns es) (edge_is h)) x ns' es')
+        (v : TakesKeeping s.counts es x es') (left : 0 < s.left) where
       abbrev pub frames_after : List ℕ
       frames_after = written fs (s.depth - 1) (frame_is (moved_to f (f.place + 1)))
 
@@ -206,8 +186,8 @@ module _ (z : lent.Room) (t : ℕ) (s : Stage) (f : held-frame.Frame) (ns es fs 
       rest_after u = bind (begin (length fs / row_width) u.grown u.next (begun_of (rows_from s.counts.edges es) (frame_is (moved_to f (f.place + 1))) ∷ begun_in (rows_from s.counts.edges es) (s.depth - 1) fs))
           λ cs. clones (bounds_of z (length fs)) t (s.left - 1) cs u.grown
 
-      stage_is : stage_of (bounds_of z (length fs)) t s ns es fs ≡ bind (taken_of u ns' es') rest_after
-      stage_is = rw (frames-are, w.answer, reads.says) (clone-step _ t s.left _ (begun_of (rows_from s.counts.edges es) (frame_is f)) _ _ _ x.rows (s.left - 1) (omega arith))
+      stage_is : stage_of (bounds_of z (length fs)) t s ns es fs ≡ bind (taken_of x ns' es') rest_after
+      stage_is = rw (frames-are, w.answer, reads.says) (clone-step _ t s.left _ (begun_of (rows_from s.counts.edges es) (frame_is f)) _ _ _ next.rows (s.left - 1) (omega arith))
 
       same_length : length frames_after ≡ length fs
       same_length = written-length fs (s.depth - 1) (frame_is (moved_to f (f.place + 1))) (omega (arith, o.depth-in))
@@ -215,17 +195,22 @@ module _ (z : lent.Room) (t : ℕ) (s : Stage) (f : held-frame.Frame) (ns es fs 
       frames-after : frames_in s.depth frames_after ≡ frame_is (moved_to f (f.place + 1)) ∷ frames_in (s.depth - 1) fs
       frames-after =
           let one : s.depth - 1 + 1 ≡ s.depth = omega arith in
-          rw one at (frame-written fs (s.depth - 1) (frame_is (moved_to f (f.place + 1))) (omega (arith, o.depth-in)) (carried-few f.clone few))
+          rw one at (frame-written fs (s.depth - 1) (frame_is (moved_to f (f.place + 1))) (omega (arith, o.depth-in)) (carried-few f.clone.stored))
 
       still-ok : FrameOk s.counts (frame_is (moved_to f (f.place + 1))) × All (FrameOk s.counts) (frames_in (s.depth - 1) fs)
       still-ok = (record { to_in = frames-ok.0.to_in; stood-in = frames-ok.0.stood-in; few = frames-ok.0.few }, frames-ok.1)
 
-      module _ (c : Counts) (q : u.grew ≡ On c) where
-        stands_after : StillTaken z (On c) u.next ns' es'
-        stands_after = rw q at w.stands
+      -- it is refused
+      pub row-refuses : (y : why.Fault) → x ≡ Err y → Turns z (bounds_of z (length fs)) t (turns_left s) (stage_of (bounds_of z (length fs)) t s ns es fs) (Err y) ns' es' frames_after
+      unfolding bind
+      row-refuses y q = record { answer = sym (stage_is ∙ rw q); staged = tt }
 
-        abbrev next_of : Option Cloning
-        next_of = pick u.begins (some (cloning_of u.next)) none
+      module _ (u : row.Taken) (q : x ≡ Ok u) where
+        abbrev c : Counts
+        c = u.counts
+
+        took : Takes z (take_up (room_of z) t f.clone.to.0 (reduces_are f.clone.stored) (grown_of s.counts ns es) (edge_is h)) (Ok u) ns' es'
+        took = rw q at w
 
         more : Kept s.counts es c es'
         more = rw q at v
@@ -235,7 +220,7 @@ module _ (z : lent.Room) (t : ℕ) (s : Stage) (f : held-frame.Frame) (ns es fs 
 
         staged-after : Staged z t (taking s c) ns' es' frames_after
         staged-after = record {
-          stands = stands_after.0;
+          stands = took.stands.0;
           shadow-in = omega (arith, o.shadow-in, more.nodes);
           few = o.few;
           depth-in = rw same_length o.depth-in;
@@ -243,36 +228,34 @@ module _ (z : lent.Room) (t : ℕ) (s : Stage) (f : held-frame.Frame) (ns es fs 
         }
 
         goes_on : stage_of (bounds_of z (length fs)) t s ns es fs
-            ≡ bind (begin (length fs / row_width) (grown_of c ns' es') next_of (begun_in (rows_from c.edges es') s.depth frames_after)) (λ cs. clones (bounds_of z (length fs)) t (s.left - 1) cs (grown_of c ns' es'))
+            ≡ bind (begin (length fs / row_width) (grown_of c ns' es') (next_of u.next) (begun_in (rows_from c.edges es') s.depth frames_after)) (λ cs. clones (bounds_of z (length fs)) t (s.left - 1) cs (grown_of c ns' es'))
         unfolding bind
         goes_on = stage_is ∙ rw (q, begun-after)
 
-      pub row-turns : (g : Grew) (b : Bool) (r : Turned) (gs : List ℕ) → u.grew ≡ g → u.begins ≡ b → AfterRow s g b u.next r frames_after gs
-          → Turns z (bounds_of z (length fs)) t (turns_left s) (stage_of (bounds_of z (length fs)) t s ns es fs) r ns' es' gs
-      unfolding bind begin
-      row-turns (Refused y) b r gs q p k = rw k (record { answer = sym (stage_is ∙ rw q); staged = tt })
-      row-turns (On c) false r gs q p k =
-          rw (k.0, k.1) (record { answer = sym (goes_on c q ∙ rw p); staged = (staged-after c q, omega arith) })
-      row-turns (On c) true (turned.Refused y) gs q p k =
-          record {
-            answer = begin-refused z (bounds_of z (length fs)) t (taking s c) u.next ns' es' frames_after gs (staged-after c q) (rw same_length refl) y k ∙ sym (goes_on c q ∙ rw p);
-            staged = tt;
-          }
-      row-turns (On c) true (turned.On v) gs q p k =
-          let a = staged-after c q in
-          let to = (stands_after c q).1 in
-          let few = (stands_after c q).2 in
-          let wide : length fs / row_width ≡ length frames_after / row_width = rw same_length refl in
-          let b = bounds_of z (length fs) in
-          record {
-            answer = begin-goes-on z b t (taking s c) u.next ns' es' frames_after gs a wide v k to few ∙ sym (goes_on c q ∙ rw p);
-            staged = (begin-staged z b t (taking s c) u.next ns' es' frames_after gs a wide v k to few, rw k.1 (omega arith));
-          }
+        -- the count of edges fits a frame
+        pub few-edges : c.edges ≤ most_edges
+        few-edges = omega (arith, staged-after.stands.rowed.within, o.few)
 
--- what `after_row` asks
-pub taken-begins : (z : lent.Room) (g : Grew) (e : held.Edge) (ns es : List ℕ) → z.edges ≤ most_edges → StillTaken z g e ns es → CanBegin g e
-taken-begins z (On c) e ns es h s = (s.2, omega (arith, s.0.rowed.within))
-taken-begins z (Refused y) e ns es h s = tt
+        by-next : (k : Option Cloning) → u.next ≡ k → NextIn c.nodes k → (r : Turned) (gs : List ℕ) → BeginsNext (taking s c) k r frames_after gs
+            → Turns z (bounds_of z (length fs)) t (turns_left s) (stage_of (bounds_of z (length fs)) t s ns es fs) r ns' es' gs
+        unfolding bind begin
+        by-next None p i r gs k = rw (k.0, k.1) (record { answer = sym (goes_on ∙ rw p); staged = (staged-after, omega arith) })
+        by-next (Some e) p i (Err y) gs k =
+            record {
+              answer = begin-refused z (bounds_of z (length fs)) t (taking s c) e ns' es' frames_after gs staged-after (rw same_length refl) y k ∙ sym (goes_on ∙ rw p);
+              staged = tt;
+            }
+        by-next (Some e) p i (Ok v) gs k =
+            let wide : length fs / row_width ≡ length frames_after / row_width = rw same_length refl in
+            let b = bounds_of z (length fs) in
+            record {
+              answer = begin-goes-on z b t (taking s c) e ns' es' frames_after gs staged-after wide v k i ∙ sym (goes_on ∙ rw p);
+              staged = (begin-staged z b t (taking s c) e ns' es' frames_after gs staged-after wide v k i, rw k.1 (omega arith));
+            }
+
+        pub row-turns : (r : Turned) (gs : List ℕ) → AfterRow s u r frames_after gs
+            → Turns z (bounds_of z (length fs)) t (turns_left s) (stage_of (bounds_of z (length fs)) t s ns es fs) r ns' es' gs
+        row-turns = by-next u.next refl took.stands.1
 
 -- ---- what the calls of a turn ask
 
@@ -286,41 +269,24 @@ module _ (z : lent.Room) (t : ℕ) (s : Stage) (ns es fs : List ℕ) (o : Staged
     stood-low : f.stood ≤ most_edges
     stood-low = omega (arith, (frames-ok z t s f ns es fs o deep top).0.stood-in, o.stands.rowed.within, o.few)
 
-    module _ (few : f.clone.count ≤ most_reduces) (at : ℕ) (x : NextAt s.counts f.clone.from.0 f.stood f.place es at) where
-      pub frame-fits : (s.depth - 1 < length fs / row_width) × (f.clone.count ≤ most_reduces) × (f.stood ≤ most_edges) × (f.place + 1 ≤ most_edges)
-      frame-fits = (omega (arith, o.depth-in), few, stood-low, omega (arith, x.after, x.within, o.stands.rowed.within, o.few))
+    module _ (at : ℕ) (x : NextAt s.counts f.clone.from.0 f.stood f.place es at) where
+      pub frame-fits : (s.depth - 1 < length fs / row_width) × (f.stood ≤ most_edges) × (f.place + 1 ≤ most_edges)
+      frame-fits = (omega (arith, o.depth-in), stood-low, omega (arith, x.after, x.within, o.stands.rowed.within, o.few))
 
       pub next-readable : (at < length es / row_width) × (length (edge_of (row_at es at)).reduces ≤ most_reduces)
       next-readable = row-readable z s.counts es at o.stands.rowed x.within
 
-      module _ (h : held.Edge) (reads : Holds h (edge_of (row_at es at))) where
-        pub row_fits : Stands z s.counts ns es × (z.edges ≤ most_edges) × (t < s.counts.nodes) × (f.clone.to.0 < s.counts.nodes)
-            × (f.clone.count ≤ most_reduces) × (h.to.0 < s.counts.nodes) × (h.count ≤ most_reduces)
-        row_fits = (
-          o.stands,
-          o.few,
-          o.shadow-in,
-          (frames-ok z t s f ns es fs o deep top).0.to_in,
-          few,
-          read-leads z s.counts es at h o.stands.rowed x.within reads,
-          reads.fits,
-        )
-
-        -- and what comes of it
-        pub row-turned : (u : row.Taken) (ns' es' gs : List ℕ)
-            → Takes z (take_up (room_of z) t f.clone.to.0 (edge_is f.clone).reduces (grown_of s.counts ns es) (edge_is h)) u ns' es' × Keeps s.counts es u.grew es'
-            → 0 < s.left → gs ≡ written fs (s.depth - 1) (frame_is (moved_to f (f.place + 1))) → (r : Turned) (hs : List ℕ) → AfterRow s u.grew u.begins u.next r gs hs
-            → let b = bounds_of z (length fs) in
-            Turns z b t (turns_left s) (stage_of b t s ns es fs) r ns' es' hs
-        row-turned u ns' es' gs w left q r hs k =
-            row-turns z t s f ns es fs o deep top at x h reads u ns' es' w.0 w.1 few left u.grew u.begins r hs refl refl (rw q at k)
+      pub row_fits : (h : held.Edge) → Holds h (edge_of (row_at es at))
+          → Stands z s.counts ns es × (z.edges ≤ most_edges) × (t < s.counts.nodes) × (f.clone.to.0 < s.counts.nodes) × (h.to.0 < s.counts.nodes)
+      row_fits h reads =
+          (o.stands, o.few, o.shadow-in, (frames-ok z t s f ns es fs o deep top).0.to_in, read-leads z s.counts es at h o.stands.rowed x.within reads)
 
 -- what a search for the next row says
-module _ (c : Counts) (n k p : ℕ) (ws : List ℕ) (r : Found) (h : Nexts c n k p ws r) where
-  pub a-row : (i : ℕ) → r ≡ Row i → NextAt c n k p ws i
+module _ (c : Counts) (n k p : ℕ) (ws : List ℕ) (r : Option ℕ) (h : Nexts c n k p ws r) where
+  pub a-row : (i : ℕ) → r ≡ Some i → NextAt c n k p ws i
   a-row i e = rw e at h
 
-  pub no_row : r ≡ Nothing → rest_from n k p (rows_from c.edges ws) ≡ []
+  pub no_row : r ≡ None → rest_from n k p (rows_from c.edges ws) ≡ []
   no_row e = rw e at h
 
 -- ---- turn after turn
@@ -345,7 +311,7 @@ module _ (z : lent.Room) (t : ℕ) (s₀ : Stage) (ns₀ es₀ fs₀ : List ℕ)
     answers : turned_of (bounds_of z (length fs₀)) t r ns' es' fs' ≡ whole
     answers = rw l.frames-kept at k.answer ∙ l.same
 
-    module _ (v : Stage) (q : r ≡ turned.On v) where
+    module _ (v : Stage) (q : r ≡ Ok v) where
       goes : Staged z t v ns' es' fs' × (turns_left v < turns_left s)
       goes = rw q at k.staged
 
@@ -361,10 +327,10 @@ module _ (z : lent.Room) (t : ℕ) (s₀ : Stage) (ns₀ es₀ fs₀ : List ℕ)
         same = rw q at answers;
       }
 
-    pub turning-refused : (y : why.Fault) → r ≡ turned.Refused y → Meets z whole (Refused y) ns' es'
+    pub turning-refused : (y : why.Fault) → r ≡ Err y → Meets z whole (Err y) ns' es'
     turning-refused y q = record { answer = rw q at answers; stands = tt }
 
-  pub turning-end : s.depth ≡ 0 → Meets z whole (On s.counts) ns es
+  pub turning-end : s.depth ≡ 0 → Meets z whole (Ok s.counts) ns es
   unfolding frames_in
   turning-end e = record {
     answer = sym (none_left (bounds_of z (length fs₀)) t s.left (grown_of s.counts ns es) (begun_in (rows_from s.counts.edges es) s.depth fs) (rw e)) ∙ l.same;
@@ -377,7 +343,7 @@ module _ (z : lent.Room) (t : ℕ) (s₀ : Stage) (ns₀ es₀ fs₀ : List ℕ)
 abbrev pub first_stage : Counts → Stage
 first_stage c = record { counts = c; depth = 0; left = most_taken }
 
-module _ (z : lent.Room) (c : Counts) (t : ℕ) (e : held.Edge) (ns es fs gs : List ℕ) (stands : Stands z c ns es) (room : z.edges ≤ most_edges) (shadow : t < c.nodes) where
+module _ (z : lent.Room) (c : Counts) (t : ℕ) (e : Cloning) (ns es fs gs : List ℕ) (stands : Stands z c ns es) (room : z.edges ≤ most_edges) (shadow : t < c.nodes) where
   first-staged : Staged z t (first_stage c) ns es fs
   unfolding frames_in
   first-staged = record { stands = stands; shadow-in = shadow; few = room; depth-in = omega arith; frames = tt }
@@ -390,23 +356,23 @@ module _ (z : lent.Room) (c : Counts) (t : ℕ) (e : held.Edge) (ns es fs gs : L
   cloned-is = refl
 
   module _ (r : Turned) (h : Begins (first_stage c) e r fs gs) where
-    pub none-begun : (y : why.Fault) → r ≡ turned.Refused y → Meets z cloned (Refused y) ns es
+    pub none-begun : (y : why.Fault) → r ≡ Err y → Meets z cloned (Err y) ns es
     none-begun y q = record {
       answer = begin-refused z (bounds_of z (length fs)) t (first_stage c) e ns es fs gs first-staged refl y (rw q at h) ∙ cloned-is;
       stands = tt;
     }
 
-    module _ (v : Stage) (q : r ≡ turned.On v) (to : e.to.0 < c.nodes) (few : e.count ≤ most_reduces) where
-      begun : Begins (first_stage c) e (turned.On v) fs gs
+    module _ (v : Stage) (q : r ≡ Ok v) (to : e.to.0 < c.nodes) where
+      begun : Begins (first_stage c) e (Ok v) fs gs
       begun = rw q at h
 
       pub begun-staged : Staged z t v ns es gs
-      begun-staged = begin-staged z (bounds_of z (length fs)) t (first_stage c) e ns es fs gs first-staged refl v begun to few
+      begun-staged = begin-staged z (bounds_of z (length fs)) t (first_stage c) e ns es fs gs first-staged refl v begun to
 
       pub all-cloned : (x : Grew) (ns' es' : List ℕ) → Meets z (stage_of (bounds_of z (length gs)) t v ns es gs) x ns' es' → Meets z cloned x ns' es'
       all-cloned x ns' es' m =
           let same : length gs ≡ length fs = rw begun.2 (written-length fs 0 (first_frame (first_stage c) e) begun.0) in
           record {
-            answer = rw same at m.answer ∙ begin-goes-on z (bounds_of z (length fs)) t (first_stage c) e ns es fs gs first-staged refl v begun to few ∙ cloned-is;
+            answer = rw same at m.answer ∙ begin-goes-on z (bounds_of z (length fs)) t (first_stage c) e ns es fs gs first-staged refl v begun to ∙ cloned-is;
             stands = m.stands;
           }

@@ -1,39 +1,41 @@
 -- Laws of the commands: what their words say, and what comes of them in order.
 use mathlib.Core.Path.{◌≡◌, refl, sym, ap, ◌∙◌}
-use mathlib.Core.Bool.{Bool, true, false, not, ◌&&◌, ◌||◌}
-use mathlib.Core.Logic.{◌≢◌}
+use mathlib.Core.Bool.{Bool, true, false, ◌&&◌, ◌||◌}
 use mathlib.Core.List.{List, [], ◌∷◌}
-use Prim.Native.Nat.{ℕ, zero, suc, ◌+◌, ◌*◌, ◌-◌, ◌≤◌, ◌<◌}
+use Prim.Native.Nat.{ℕ, zero, suc, ◌+◌, ◌*◌, ◌≤◌, ◌<◌}
 use native.Mathlib.Omega.{arith}
-use lib.Dec.{eqb, ltb}
-use lib.ListN.{length, get_or, take, drop, length-drop, drop_of_length-le}
-use lib.Seq.{length-take-le, drop-drop}
-use borrow.Author.Tests.{lt-ltb, le-ltb, ne_eqb, ltb-false, not-true}
-use Rattle.words.proofs.Theorems.Tests.{and_l, and_r, by-test}
-use Rattle.words.specs.Outcome.{Res, ok, no, bind, pick}
-use Rattle.words.specs.Numbers.{Fault, bad_copy}
+use lib.Dec.{eqb}
+use lib.ListN.{length, get_or, take, drop, length-drop}
+use lib.Seq.{drop-drop}
+use borrow.Author.Tests.{lt-ltb, le-ltb, ne_eqb}
+use Rattle.words.proofs.Theorems.Tests.{by-test}
+use Rattle.words.specs.Outcome.{Res, bind, pick}
+use Rattle.words.specs.Numbers.{Fault}
 use Rattle.rules.specs.Rules.{Rule}
 use Rattle.tree.specs.Grow.{Grown, plant, convert_all}
-use Rattle.tree.specs.Code.{room_of, grown_of, grew_of, Stands, Rows, Meets}
+use Rattle.tree.specs.Code.{Grew, room_of, grown_of, Stands, Rows, Meets}
 use Rattle.tree.specs.declared.Counts.{Counts}
 use Rattle.tree.specs.declared.Room as lent
-use Rattle.tree.specs.declared.Grew.{Grew}
-use Rattle.tree.specs.declared.Grew.TheVariants.{On, Refused}
+use Rattle.std.specs.Prelude.{◌==◌, Ok, Err, Some}
 use Rattle.tree.specs.declared.Fault as why-of
 use Rattle.tree.specs.declared.Fault.TheVariants as why
 use Rattle.tree.proofs.Laws.{both-stand, on_then, refused-then}
-use Rattle.garden.specs.Garden.{good_pairs, pairs_of, prefix_words, shadow_words, path_size, good_path, Command, conversions, path, bad, command_of, command_size, Pair, commands_of, the_commands, handle_common_prefixes, handle_command, handle_commands, is_conversions, asked, convert_last, tend, build}
-use Rattle.garden.specs.Code.{bounds_of, command_is, CommandIn, Sized, AskedFor, Handles}
-use Rattle.garden.proofs.Theorems.Pairs.{pairs-count}
-use Rattle.garden.specs.declared.Handled.{Handled}
+use Rattle.garden.specs.Garden.{good_pairs, pairs_of, prefix_words, shadow_words, path_size, good_path, Command, conversions, path, bad, command_of, command_size, commands_of, the_commands, handle_common_prefixes, handle_command, handle_commands, is_conversions, asked, convert_last, tend, build}
+use Rattle.std.specs.Borrow.{Bor}
+use Rattle.garden.specs.Code.{Handled, bounds_of, command_is, CommandIn, Commands, Handles}
 use Rattle.garden.specs.declared.Command as coded
 use Rattle.garden.specs.declared.Command.TheVariants as command
 
--- ---- one command
+-- ---- pairs
 
--- `&ws[a..a + k]`
-pub part_of : (ws : List ℕ) (a k : ℕ) → take (a + k - a) (drop a ws) ≡ take k (drop a ws)
-part_of ws a k = let e : a + k - a ≡ k = omega arith in rw e
+-- fewer than two words are pairs if there are none
+pub pairs-left : (ws : List ℕ) → length ws < 2 → length ws == 0 ≡ good_pairs ws
+unfolding good_pairs
+pairs-left [] h = refl
+pairs-left (k ∷ []) h = refl
+pairs-left (k ∷ s ∷ ws) h = absurd (omega arith)
+
+-- ---- one command
 
 -- a path, by the tests of its words
 module _ (ws : List ℕ) (one : get_or ws 0 0 ≡ 1) where
@@ -46,23 +48,41 @@ module _ (ws : List ℕ) (one : get_or ws 0 0 ≡ 1) where
   path-short h = bad-path (rw (lt-ltb (length ws) 3 h))
 
   module _ (three : 3 ≤ length ws) where
-    pub path-cut : length ws < path_size ws → bad ≡ command_of ws
+    pub path-cut : length (drop 3 ws) < 2 * get_or ws 1 0 + 2 * get_or ws 2 0 → bad ≡ command_of ws
     unfolding good_path
-    path-cut h = bad-path (rw (le-ltb (length ws) 3 three, lt-ltb (length ws) (path_size ws) h))
+    path-cut h = bad-path (rw (le-ltb (length ws) 3 three, lt-ltb (length ws) (path_size ws) (omega (arith, h, length-drop 3 ws))))
 
-    module _ (fits : path_size ws ≤ length ws) where
-      pub prefix-bad : good_pairs (prefix_words ws) ≡ false → bad ≡ command_of ws
+    -- its words are there, and are split so
+    module _ (fits : 2 * get_or ws 1 0 + 2 * get_or ws 2 0 ≤ length (drop 3 ws)) (prefix rest shadow : List ℕ)
+        (p : prefix ≡ prefix_words ws) (q : rest ≡ drop (2 * get_or ws 1 0) (drop 3 ws)) (r : shadow ≡ take (2 * get_or ws 2 0) rest) where
+      whole : path_size ws ≤ length ws
+      whole = omega (arith, fits, length-drop 3 ws)
+
+      shadow-is : shadow ≡ shadow_words ws
+      shadow-is = r ∙ rw (q, drop-drop (2 * get_or ws 1 0) 3 ws)
+
+      pub prefix-bad : good_pairs prefix ≡ false → bad ≡ command_of ws
       unfolding good_path
-      prefix-bad h = bad-path (rw (le-ltb (length ws) 3 three, le-ltb (length ws) (path_size ws) fits, h))
+      prefix-bad h = bad-path (rw (le-ltb (length ws) 3 three, le-ltb (length ws) (path_size ws) whole, rw p at h))
 
-      module _ (prefix : good_pairs (prefix_words ws) ≡ true) where
-        pub shadow-bad : good_pairs (shadow_words ws) ≡ false → bad ≡ command_of ws
+      module _ (good : good_pairs prefix ≡ true) where
+        pub shadow-bad : good_pairs shadow ≡ false → bad ≡ command_of ws
         unfolding good_path
-        shadow-bad h = bad-path (rw (le-ltb (length ws) 3 three, le-ltb (length ws) (path_size ws) fits, prefix, h))
+        shadow-bad h = bad-path (rw (le-ltb (length ws) 3 three, le-ltb (length ws) (path_size ws) whole, rw p at good, rw shadow-is at h))
 
-        pub path-is : good_pairs (shadow_words ws) ≡ true → path (pairs_of (prefix_words ws)) (pairs_of (shadow_words ws)) ≡ command_of ws
+        path-is : good_pairs shadow ≡ true → path (pairs_of prefix) (pairs_of shadow) ≡ command_of ws
         unfolding command_of good_path
-        path-is h = rw (one, le-ltb (length ws) 3 three, le-ltb (length ws) (path_size ws) fits, prefix, h)
+        path-is h = rw (one, le-ltb (length ws) 3 three, le-ltb (length ws) (path_size ws) whole, rw p at good, rw shadow-is at h, p, shadow-is)
+
+        after-is : (after : List ℕ) → after ≡ drop (2 * get_or ws 2 0) rest → after ≡ drop (command_size ws) ws
+        unfolding command_size
+        after-is after e =
+            let n : 3 + (2 * get_or ws 1 0 + 2 * get_or ws 2 0) ≡ path_size ws = omega arith in
+            rw (one, e, q, drop-drop (2 * get_or ws 2 0) (2 * get_or ws 1 0) (drop 3 ws), drop-drop (2 * get_or ws 1 0 + 2 * get_or ws 2 0) 3 ws, n)
+
+        pub path-read : good_pairs shadow ≡ true → (after : List ℕ) → after ≡ drop (2 * get_or ws 2 0) rest
+            → ((good_pairs prefix ≡ true) × (good_pairs shadow ≡ true)) × (path (pairs_of prefix) (pairs_of shadow) ≡ command_of ws) × (after ≡ drop (command_size ws) ws)
+        path-read h after e = ((good, h), path-is h, after-is after e)
 
 pub conversions-are : (ws : List ℕ) → get_or ws 0 0 ≡ 2 → conversions ≡ command_of ws
 unfolding command_of
@@ -72,76 +92,9 @@ pub no-command : (ws : List ℕ) → (get_or ws 0 0 ≡ 2 → ⊥) → (get_or w
 unfolding command_of
 no-command ws h k = rw (ne_eqb (get_or ws 0 0) 2 h, ne_eqb (get_or ws 0 0) 1 k)
 
--- ---- how many words it has
-
--- the code's command is the one that stands first
-abbrev pub Says : coded.Command → List ℕ → Type 0
-Says r ws = CommandIn ws r × (command_is r ws ≡ command_of ws)
-
-pub said : (ws : List ℕ) (r x : coded.Command) → Says r ws → r ≡ x → Says x ws
-said ws r x k e = rw e at k
-
--- n words of good pairs that read alike are as many
-same-pairs : (n m : ℕ) (xs ys : List ℕ) → good_pairs (take n xs) ≡ true → good_pairs (take m ys) ≡ true → n ≤ length xs → m ≤ length ys
-    → pairs_of (take n xs) ≡ pairs_of (take m ys) → n ≡ m
-same-pairs n m xs ys g h a b e =
-    omega (arith, pairs-count (take n xs) g, pairs-count (take m ys) h, length-take-le n xs a, length-take-le m ys b, ap length e)
-
-record IsPath (ws : List ℕ) (ps qs : List Pair) : Type 0 where
-  size : command_size ws ≡ path_size ws
-  good : good_path ws ≡ true
-  prefix : ps ≡ pairs_of (prefix_words ws)
-  shadow : qs ≡ pairs_of (shadow_words ws)
-
-is-path : (ws : List ℕ) (ps qs : List Pair) → path ps qs ≡ command_of ws → IsPath ws ps qs
-unfolding command_of command_size
-is-path ws ps qs e = by (eqb (get_or ws 0 0) 2) (eqb (get_or ws 0 0) 1 && good_path ws) refl refl e
-  where
-    by : (a b : Bool) → eqb (get_or ws 0 0) 2 ≡ a → eqb (get_or ws 0 0) 1 && good_path ws ≡ b
-        → path ps qs ≡ pick a conversions (pick b (path (pairs_of (prefix_words ws)) (pairs_of (shadow_words ws))) bad) → IsPath ws ps qs
-    by true b s t e = absurd (let z : ◌≡◌ {A = ℕ} 0 1 = cc in omega arith)
-    by false false s t e = absurd (let z : ◌≡◌ {A = ℕ} 0 1 = cc in omega arith)
-    by false true s t e = record { size = rw s; good = and_r (eqb (get_or ws 0 0) 1) (good_path ws) t; prefix = cc; shadow = cc }
-
-record GoodPath (ws : List ℕ) : Type 0 where
-  fits : path_size ws ≤ length ws
-  prefix : good_pairs (prefix_words ws) ≡ true
-  shadow : good_pairs (shadow_words ws) ≡ true
-
-good-path : (ws : List ℕ) → good_path ws ≡ true → GoodPath ws
-unfolding good_path
-good-path ws e =
-    let f : not (ltb (length ws) (path_size ws)) ≡ true = search (and_l, and_r) in
-    record { fits = ltb-false (length ws) (path_size ws) (not-true (ltb (length ws) (path_size ws)) f); prefix = search (and_l, and_r); shadow = search (and_l, and_r) }
-
-one_word : (ws : List ℕ) → conversions ≡ command_of ws → 1 ≡ command_size ws
-unfolding command_of command_size
-one_word ws e = by (eqb (get_or ws 0 0) 2) (eqb (get_or ws 0 0) 1 && good_path ws) e
-  where
-    by : (a b : Bool) → conversions ≡ pick a conversions (pick b (path (pairs_of (prefix_words ws)) (pairs_of (shadow_words ws))) bad) → 1 ≡ pick a 1 (path_size ws)
-    by true b e = refl
-    by false false e = absurd (let z : ◌≡◌ {A = ℕ} 0 1 = cc in omega arith)
-    by false true e = absurd (let z : ◌≡◌ {A = ℕ} 0 1 = cc in omega arith)
-
-path-words : (ws : List ℕ) (p s : ℕ) → Says (command.Path p s) ws → 3 + p + s ≡ command_size ws
-path-words ws p s k =
-    let i = is-path ws _ _ k.1 in
-    let g = good-path ws i.good in
-    let l = length-drop 3 ws in
-    let e : p ≡ 2 * get_or ws 1 0 = same-pairs p (2 * get_or ws 1 0) (drop 3 ws) (drop 3 ws) k.0.1 g.prefix (omega (arith, l, k.0.0)) (omega (arith, l, g.fits)) i.prefix in
-    let f : s ≡ 2 * get_or ws 2 0 =
-    same-pairs s (2 * get_or ws 2 0) (drop (3 + p) ws) (drop (3 + 2 * get_or ws 1 0) ws) k.0.2 g.shadow (omega (arith, length-drop (3 + p) ws, k.0.0))
-    (omega (arith, length-drop (3 + 2 * get_or ws 1 0) ws, g.fits)) i.shadow in
-    omega (arith, i.size)
-
-pub one-sized : (ws : List ℕ) → Says command.Conversions ws → Sized ws 1
-one-sized ws k _ = one_word ws k.1
-
-pub path-sized : (ws : List ℕ) (p s : ℕ) → Says (command.Path p s) ws → Sized ws (3 + p + s)
-path-sized ws p s k _ = path-words ws p s k
-
-pub bad-sized : (ws : List ℕ) (n : ℕ) → Says command.Bad ws → Sized ws n
-bad-sized ws n k h = absurd (h (sym k.1))
+pub conversions-after : (ws : List ℕ) → get_or ws 0 0 ≡ 2 → drop 1 ws ≡ drop (command_size ws) ws
+unfolding command_size
+conversions-after ws e = rw e
 
 -- ---- what comes of it
 
@@ -149,24 +102,25 @@ pub rows-meet : (z : lent.Room) (c : Counts) (x : Res Fault Grown) (r : Grew) (n
 rows-meet z c x r ns es es' s w =
     record { answer = w.answer; stands = both-stand z c.nodes r ns es' s.root s.within s.fits s.few w.rowed }
 
-module _ (z : lent.Room) (n : ℕ) (R : List Rule) (ws : List ℕ) (c : Counts) (ns es : List ℕ) where
+module _ (z : lent.Room) (n : ℕ) (R : List Rule) (k : coded.Command) (c : Counts) (ns es : List ℕ) where
   abbrev handled : Res Fault Grown
-  handled = handle_command (bounds_of z n) R (command_of ws) (grown_of c ns es)
+  handled = handle_command (bounds_of z n) R (command_is k) (grown_of c ns es)
 
-  pub converted : (r : Grew) (es' : List ℕ) → Says command.Conversions ws → Stands z c ns es
+  pub converted : (r : Grew) (es' : List ℕ) → k ≡ command.Conversions → Stands z c ns es
       → Rows z c (convert_all (room_of z) 1 R (grown_of c ns es)) r ns es' → Meets z handled r ns es'
   unfolding handle_command
-  converted r es' k s w = rw (← k.1) (rows-meet z c _ r ns es es' s w)
+  converted r es' e s w = rw e (rows-meet z c _ r ns es es' s w)
 
-  pub pathed : (r : Grew) (ns' es' : List ℕ) (p s : ℕ) → Says (command.Path p s) ws
-      → Meets z (handle_common_prefixes (bounds_of z n) (pairs_of (take (3 + p - 3) (drop 3 ws))) (pairs_of (take (3 + p + s - (3 + p)) (drop (3 + p) ws))) (grown_of c ns es)) r ns' es'
+  pub pathed : (r : Grew) (ns' es' : List ℕ) (prefix shadow : Bor (List ℕ)) → k ≡ command.Path prefix shadow
+      → Meets z (handle_common_prefixes (bounds_of z n) (pairs_of prefix.now) (pairs_of shadow.now) (grown_of c ns es)) r ns' es'
       → Meets z handled r ns' es'
   unfolding handle_command
-  pathed r ns' es' p s k m = rw (← k.1) (rw (part_of ws 3 p, part_of ws (3 + p) s) at m)
+  pathed r ns' es' prefix shadow e m = rw e m
 
-  pub not-handled : Says command.Bad ws → Meets z handled (Refused why.BadCopy) ns es
-  unfolding handle_command
-  not-handled k = record { answer = rw (← k.1); stands = tt }
+-- the words of a path are pairs
+pub are-pairs : (k : coded.Command) (prefix shadow : Bor (List ℕ)) → CommandIn k → k ≡ command.Path prefix shadow
+    → (good_pairs prefix.now ≡ true) × (good_pairs shadow.now ≡ true)
+are-pairs k prefix shadow i e = rw e at i
 
 -- ---- the commands in order
 
@@ -195,10 +149,6 @@ commands-first (w ∷ ws) h =
     let rest = drop (command_size (w ∷ ws)) (w ∷ ws) in
     ap (λ (cs : List Command). command_of (w ∷ ws) ∷ cs) (enough (length ws) (length rest) rest (omega (arith, length-drop (command_size (w ∷ ws)) (w ∷ ws), some_word (w ∷ ws))) (omega arith))
 
--- from word i on
-commands-step : (ws : List ℕ) (i : ℕ) → i < length ws → the_commands (drop i ws) ≡ command_of (drop i ws) ∷ the_commands (drop (i + command_size (drop i ws)) ws)
-commands-step ws i h = commands-first (drop i ws) (omega (arith, length-drop i ws)) ∙ rw (drop-drop (command_size (drop i ws)) i ws)
-
 asks-conversions : (ws : List ℕ) → is_conversions (command_of ws) ≡ eqb (get_or ws 0 0) 2
 unfolding is_conversions command_of
 asks-conversions ws = by (eqb (get_or ws 0 0) 2) (eqb (get_or ws 0 0) 1 && good_path ws)
@@ -208,12 +158,11 @@ asks-conversions ws = by (eqb (get_or ws 0 0) 2) (eqb (get_or ws 0 0) 1 && good_
     by false true = refl
     by false false = refl
 
--- the loop over them stands at word i: what is still to do comes to what there was to do, and so does what was asked for
-pub record Commanded (z : lent.Room) (n : ℕ) (R : List Rule) (ws : List ℕ) (x₀ : Res Fault Grown) (c : Counts) (ns es : List ℕ) (b : Bool) (i : ℕ) : Type 0 where
-  pub inside : i ≤ length ws
+-- the loop over them has these words left: what is still to do comes to what there was to do, and so does what was asked for
+pub record Commanded (z : lent.Room) (n : ℕ) (R : List Rule) (ws : List ℕ) (x₀ : Res Fault Grown) (c : Counts) (ns es : List ℕ) (b : Bool) (left : List ℕ) : Type 0 where
   pub stands : Stands z c ns es
-  pub same : handle_commands (bounds_of z n) R (the_commands (drop i ws)) (grown_of c ns es) ≡ x₀
-  pub asks : b || asked (the_commands (drop i ws)) ≡ asked (the_commands ws)
+  pub same : handle_commands (bounds_of z n) R (the_commands left) (grown_of c ns es) ≡ x₀
+  pub asks : b || asked (the_commands left) ≡ asked (the_commands ws)
 
 or-false : (b : Bool) → b ≡ b || false
 or-false true = refl
@@ -223,76 +172,88 @@ or_assoc : (a b c : Bool) → a || (b || c) ≡ (a || b) || c
 or_assoc true b c = refl
 or_assoc false b c = refl
 
-module _ (z : lent.Room) (n : ℕ) (R : List Rule) (ws : List ℕ) (x₀ : Res Fault Grown) (c : Counts) (ns es : List ℕ) (b : Bool) (i : ℕ) (l : Commanded z n R ws x₀ c ns es b i) where
-  module _ (h : i < length ws) (r : Grew) (ns' es' : List ℕ) (m : Meets z (handle_command (bounds_of z n) R (command_of (drop i ws)) (grown_of c ns es)) r ns' es') where
-    step : bind (handle_command (bounds_of z n) R (command_of (drop i ws)) (grown_of c ns es))
-        (λ g. handle_commands (bounds_of z n) R (the_commands (drop (i + command_size (drop i ws)) ws)) g) ≡ x₀
+module _ (z : lent.Room) (n : ℕ) (R : List Rule) (ws : List ℕ) (x₀ : Res Fault Grown) (c : Counts) (ns es : List ℕ) (b : Bool) (left : List ℕ)
+    (l : Commanded z n R ws x₀ c ns es b left) where
+  module _ (h : 0 < length left) where
+    first : bind (handle_command (bounds_of z n) R (command_of left) (grown_of c ns es))
+        (λ g. handle_commands (bounds_of z n) R (the_commands (drop (command_size left) left)) g) ≡ x₀
     unfolding handle_commands
-    step = rw (commands-step ws i h) at l.same
+    first = rw (commands-first left h) at l.same
 
-    -- a command that is done was no bad one
-    not-bad : (d : Counts) → r ≡ On d → command_of (drop i ws) ≢ bad
-    unfolding handle_command
-    not-bad d q e = let a : ok (grown_of d ns' es') ≡ no bad_copy = rw (q, e) at m.answer in absurd (let y : ◌≡◌ {A = ℕ} 0 1 = cc in omega arith)
+    pub commanded-bad : bad ≡ command_of left → Handles z (the_commands ws) x₀ (Err why.BadCopy) ns es
+    unfolding handle_command bind
+    commanded-bad e = record { meets = record { answer = rw (← e) at first; stands = tt }; asked-for = tt }
 
-    pub commanded-more : (d : Counts) → r ≡ On d → (w : ℕ) → w ≡ get_or (drop i ws) 0 0 → (k : ℕ) → k ≤ length (drop i ws) → Sized (drop i ws) k
-        → Commanded z n R ws x₀ d ns' es' (b || eqb w 2) (i + k)
-    unfolding asked
-    commanded-more d q w v k f s =
-        let e : k ≡ command_size (drop i ws) = s (not-bad d q) in
-        record {
-          inside = omega (arith, length-drop i ws);
-          stands = rw q at m.stands;
-          same = rw e (sym (on_then r ns' es' _ m.answer d q _) ∙ step);
-          asks = rw (e, v, ← (asks-conversions (drop i ws))) (sym (or_assoc b _ _) ∙ (rw (commands-step ws i h) at l.asks));
-        }
+    module _ (k : coded.Command) (after : Bor (List ℕ)) (e : Commands left (Some (k, after)))
+        (r : Grew) (ns' es' : List ℕ) (m : Meets z (handle_command (bounds_of z n) R (command_is k) (grown_of c ns es)) r ns' es') where
+      step : bind (handle_command (bounds_of z n) R (command_is k) (grown_of c ns es)) (λ g. handle_commands (bounds_of z n) R (the_commands after.now) g) ≡ x₀
+      step = rw (e.1, e.2) first
 
-    pub commanded-refused : (y : why-of.Fault) → r ≡ Refused y → (a : Bool) → Handles z (the_commands ws) x₀ (record { grew = Refused y; asked = a }) ns' es'
-    commanded-refused y q a =
-        record { meets = record { answer = sym (refused-then r ns' es' _ m.answer y q _) ∙ step; stands = tt }; asked-for = tt }
+      pub commanded-more : (d : Counts) → r ≡ Ok d → (w : ℕ) → w ≡ get_or left 0 0 → Commanded z n R ws x₀ d ns' es' (b || eqb w 2) after.now
+      unfolding asked
+      commanded-more d q w v = record {
+        stands = rw q at m.stands;
+        same = sym (on_then r ns' es' _ m.answer d q _) ∙ step;
+        asks = rw (e.2, v, ← (asks-conversions left)) (sym (or_assoc b _ _) ∙ (rw (commands-first left h) at l.asks));
+      }
 
-  pub commanded-end : length ws ≤ i → Handles z (the_commands ws) x₀ (record { grew = On c; asked = b }) ns es
+      pub commanded-refused : (y : why-of.Fault) → r ≡ Err y → Handles z (the_commands ws) x₀ (Err y) ns' es'
+      commanded-refused y q =
+          record { meets = record { answer = sym (refused-then r ns' es' _ m.answer y q _) ∙ step; stands = tt }; asked-for = tt }
+
+  pub commanded-end : length left ≡ 0 → Handles z (the_commands ws) x₀ (Ok (c, b)) ns es
   unfolding handle_commands asked commands_of
-  commanded-end h =
-      let e : drop i ws ≡ [] = drop_of_length-le ws {i = i} h in
-      record { meets = record { answer = rw e at l.same; stands = l.stands }; asked-for = or-false b ∙ (rw e at l.asks) }
+  commanded-end h = by left h l
+    where
+      by : (left : List ℕ) → length left ≡ 0 → Commanded z n R ws x₀ c ns es b left → Handles z (the_commands ws) x₀ (Ok (c, b)) ns es
+      by [] h l = record { meets = record { answer = l.same; stands = l.stands }; asked-for = or-false b ∙ l.asks }
+      by (w ∷ left) h l = absurd (omega arith)
+
+-- a command has a word at least
+pub fewer : (ws : List ℕ) (k : coded.Command) (after : Bor (List ℕ)) → 0 < length ws → Commands ws (Some (k, after)) → length after.now < length ws
+fewer ws k after h e = rw e.2 (omega (arith, length-drop (command_size ws) ws, some_word ws))
 
 -- ---- and then the conversions
 
 module _ (z : lent.Room) (n : ℕ) (R : List Rule) (cs : List Command) (g : Grown) (h : Handled) (ns es : List ℕ)
     (k : Handles z cs (handle_commands (bounds_of z n) R cs g) h ns es) where
-  -- they were asked for
-  pub tended : h.asked ≡ true → Meets z (tend (bounds_of z n) R cs g) h.grew ns es
-  unfolding tend convert_last
-  tended a = record { answer = by h.grew refl k.asked-for; stands = k.meets.stands }
-    where
-      by : (r : Grew) → h.grew ≡ r → AskedFor cs r h.asked → grew_of r ns es ≡ bind (handle_commands (bounds_of z n) R cs g) (λ g. convert_last (bounds_of z n) R g (asked cs))
-      by (On c) q t = sym (on_then h.grew ns es _ k.meets.answer c q _ ∙ rw (← t, a))
-      by (Refused y) q t = sym (refused-then h.grew ns es _ k.meets.answer y q _)
+  module _ (c : Counts) (b : Bool) (q : h ≡ Ok (c, b)) where
+    done : Handles z cs (handle_commands (bounds_of z n) R cs g) (Ok (c, b)) ns es
+    done = rw q at k
 
-  -- they were not
-  pub tended-last : h.asked ≡ false → (c : Counts) → h.grew ≡ On c → (r : Grew) (es' : List ℕ)
-      → Rows z c (convert_all (room_of z) 1 R (grown_of c ns es)) r ns es' → Meets z (tend (bounds_of z n) R cs g) r ns es'
-  unfolding tend convert_last
-  tended-last a c q r es' w =
-      let t : h.asked ≡ asked cs = rw q at k.asked-for in
-      let s : Stands z c ns es = rw q at k.meets.stands in
-      let e : bind (handle_commands (bounds_of z n) R cs g) (λ g. convert_last (bounds_of z n) R g (asked cs)) ≡ convert_all (room_of z) 1 R (grown_of c ns es) =
-      on_then h.grew ns es _ k.meets.answer c q _ ∙ rw (← t, a) in
-      rw e (rows-meet z c _ r ns es es' s w)
+    last : bind (handle_commands (bounds_of z n) R cs g) (λ g. convert_last (bounds_of z n) R g (asked cs)) ≡ convert_last (bounds_of z n) R (grown_of c ns es) b
+    last =
+        let t : b ≡ asked cs = done.asked-for in
+        on_then (Ok c) ns es _ done.meets.answer c refl _ ∙ rw t
 
-  pub tended-refused : (y : why-of.Fault) → h.grew ≡ Refused y → Meets z (tend (bounds_of z n) R cs g) (Refused y) ns es
+    pub tended-stands : Stands z c ns es
+    tended-stands = done.meets.stands
+
+    -- they were asked for
+    pub tended : b ≡ true → Meets z (tend (bounds_of z n) R cs g) (Ok c) ns es
+    unfolding tend convert_last
+    tended a = record { answer = sym (rw a at last); stands = tended-stands }
+
+    -- they were not
+    pub tended-last : b ≡ false → (r : Grew) (es' : List ℕ) → Rows z c (convert_all (room_of z) 1 R (grown_of c ns es)) r ns es'
+        → Meets z (tend (bounds_of z n) R cs g) r ns es'
+    unfolding tend convert_last
+    tended-last a r es' w = rw (rw a at last) (rows-meet z c _ r ns es es' tended-stands w)
+
+  pub tended-refused : (y : why-of.Fault) → h ≡ Err y → Meets z (tend (bounds_of z n) R cs g) (Err y) ns es
   unfolding tend
-  tended-refused y q = record { answer = sym (refused-then h.grew ns es _ k.meets.answer y q _); stands = tt }
+  tended-refused y q =
+      let k : Handles z cs (handle_commands (bounds_of z n) R cs g) (Err y) ns es = rw q at k in
+      record { answer = sym (refused-then (Err y) ns es _ k.meets.answer y refl _); stands = tt }
 
 -- ---- the whole
 
 module _ (z : lent.Room) (n : ℕ) (R : List Rule) (cs : List Command) (r : Grew) (ns es : List ℕ) (m : Meets z (plant (room_of z) R) r ns es) where
-  pub none-built : (y : why-of.Fault) → r ≡ Refused y → Meets z (build (bounds_of z n) R cs) (Refused y) ns es
+  pub none-built : (y : why-of.Fault) → r ≡ Err y → Meets z (build (bounds_of z n) R cs) (Err y) ns es
   unfolding build
   none-built y q = record { answer = sym (refused-then r ns es _ m.answer y q _); stands = tt }
 
-  pub all-built : (c : Counts) → r ≡ On c → (x : Grew) (ns' es' : List ℕ) → Meets z (tend (bounds_of z n) R cs (grown_of c ns es)) x ns' es'
+  pub all-built : (c : Counts) → r ≡ Ok c → (x : Grew) (ns' es' : List ℕ) → Meets z (tend (bounds_of z n) R cs (grown_of c ns es)) x ns' es'
       → Meets z (build (bounds_of z n) R cs) x ns' es'
   unfolding build
   all-built c q x ns' es' k = record { answer = k.answer ∙ sym (on_then r ns es _ m.answer c q _); stands = k.stands }

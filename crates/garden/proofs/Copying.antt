@@ -1,6 +1,6 @@
 -- Laws of copying a node's rows.
 use mathlib.Core.Path.{◌≡◌, refl, sym, ap, ◌∙◌}
-use mathlib.Core.Bool.{Bool, true, false}
+use mathlib.Core.Bool.{Bool, true, false, false≢true}
 use mathlib.Core.List.{List, [], ◌∷◌, ◌++◌}
 use mathlib.Core.Option.{none}
 use Prim.Native.Nat.{ℕ, zero, suc, ◌+◌, ◌*◌, ◌-◌, ◌/◌, ◌≤◌, ◌<◌}
@@ -10,30 +10,27 @@ use lib.ListN.{length, get_or, take, drop, set, drop_of_length-le}
 use lib.Seq.{length-take-le, drop-drop, set_at, get_or-set_same}
 use borrow.Author.Tests.{le-ltb, eq-eqb}
 use Rattle.words.specs.Limits.{row_width}
-use Rattle.words.specs.Outcome.{Res, bind, pick}
-use Rattle.words.specs.Numbers.{Fault, far_offset, sixth_reduce}
+use Rattle.words.specs.Outcome.{Res, ok, no, bind}
+use Rattle.words.specs.Numbers.{Fault}
 use Rattle.words.specs.declared.NodeNo.{NodeNo}
 use Rattle.rows.specs.Rows.{Reduce, Edge, edge_of, rows_from, edges_from, row_words, find, leaving}
-use Rattle.rows.specs.Code.{edge_is, Holds, row_at, put_in, place_of}
+use Rattle.rows.specs.Code.{reduces_are, edge_is, Holds, row_at, put_in, place_of}
 use Rattle.rows.specs.declared.Edge as held
-use Rattle.rows.specs.declared.Added.{Added}
+use Rattle.rows.specs.declared.reduce_list.Reduces.{Reduces}
 use Rattle.rows.proofs.Theorems.Lookup.{rows_left_lem, row_at-length, rows_step, rows_end, edges-many}
 use Rattle.rows.proofs.Theorems.Order.{place-within}
 use Rattle.rows.proofs.Theorems.Put.{edges-cut, row_number, set-row, put-in-length, put-in-rows}
 use Rattle.rows.proofs.Laws.{word_at}
 use Rattle.tree.specs.Grow.{Grown, add_edge}
-use Rattle.tree.specs.Code.{room_of, edges_in, grown_of, grew_of, Rising, FoundAt, Rowed, StillRowed, Rows, Puts}
+use Rattle.tree.specs.Code.{Grew, room_of, fault_of, edges_in, grown_of, grew_of, Rising, Looks, Rowed, StillRowed, Rows, Puts}
 use Rattle.tree.specs.declared.Counts.{Counts}
 use Rattle.tree.specs.declared.Room as lent
 use Rattle.tree.specs.declared.Fault as why
-use Rattle.tree.specs.declared.Fault.TheVariants as code
-use Rattle.tree.specs.declared.Grew.{Grew}
-use Rattle.tree.specs.declared.Grew.TheVariants.{On, Refused}
+use Rattle.std.specs.Prelude.{Option, Some, None, is_some, Ok, Err}
 use Rattle.tree.proofs.Laws.{place_inside, row-marked, on_then, refused-then}
-use Rattle.garden.specs.Garden.{standing, raised_on, extend, row_from, copy_with, copy_rows, clone_with_reduce_vec}
-use Rattle.garden.specs.Code.{Lists, older, stood_from, rest_from, NextAt, Kept, Keeps}
+use Rattle.garden.specs.Garden.{standing, raised_on, extend, copy_with, copy_rows, clone_with_reduce_vec}
+use Rattle.garden.specs.Code.{older, stood_from, rest_from, NextAt, Kept, Keeps}
 use Rattle.garden.proofs.Theorems.Standing.{older-put, older-all, older-older, stood-older, stood-all, stood-length, stood-start, stood-past}
-use Rattle.garden.proofs.Carried.{listed, unlisted}
 
 -- ---- the words of a row
 
@@ -99,30 +96,26 @@ module _ (c : Counts) (es : List ℕ) (o : Rising c es) (n k p : ℕ) where
         unfolding stood_from
         young a = rw (next-rows, a)
 
-        module _ (one : ℕ) (q : one ≡ pick (ltb (get_or (row_at es at) 15 0) k) 1 0) where
-          pub seek_found : left < one → NextAt c n k p es at
-          seek_found g = by (ltb (get_or (row_at es at) 15 0) k) refl q
-            where
-              by : (b : Bool) → ltb (get_or (row_at es at) 15 0) k ≡ b → one ≡ pick b 1 0 → NextAt c n k p es at
-              by false t q = absurd (omega arith)
-              by true t q =
-                  let z : left ≡ 0 = omega arith in
-                  let now : rest_from n k p (rows_from c.edges es) ≡ edge_of (row_at es at) ∷ rest = sym l.same ∙ rw z (here t) in
-                  let later : rest_from n k (p + 1) (rows_from c.edges es) ≡ rest =
-                  sym (drop-drop 1 p (stood_from n k (rows_from c.edges es))) ∙ ap (λ (l : List Edge). drop 1 l) now in
-                  record { after = omega (arith, l.low); within = h; rows = now ∙ ap (λ (l : List Edge). edge_of (row_at es at) ∷ l) (sym later) }
+        module _ (b : Bool) (q : b ≡ ltb (get_or (row_at es at) 15 0) k) where
+          module _ (t : b ≡ true) where
+            old : ltb (get_or (row_at es at) 15 0) k ≡ true
+            old = sym q ∙ t
 
-          pub seek-more : one ≤ left → Seeking c.edges es n k p (at + 1) (left - one)
-          seek-more g = by (ltb (get_or (row_at es at) 15 0) k) refl q
-            where
-              by : (b : Bool) → ltb (get_or (row_at es at) 15 0) k ≡ b → one ≡ pick b 1 0 → Seeking c.edges es n k p (at + 1) (left - one)
-              by true t q =
-                  let z : left ≡ suc (left - one) = omega arith in
-                  let now : drop (suc (left - one)) (edge_of (row_at es at) ∷ rest) ≡ rest_from n k p (rows_from c.edges es) = rw (here t, z) at l.same in
-                  record { within = omega arith; begun = omega (arith, l.begun); low = omega (arith, l.low); same = now }
-              by false t q =
-                  let z : left - one ≡ left = omega arith in
-                  record { within = omega arith; begun = omega (arith, l.begun); low = omega (arith, l.low); same = rw (z, ← young t) l.same }
+            pub seek_found : left ≡ 0 → NextAt c n k p es at
+            seek_found z =
+                let now : rest_from n k p (rows_from c.edges es) ≡ edge_of (row_at es at) ∷ rest = sym l.same ∙ rw z (here old) in
+                let later : rest_from n k (p + 1) (rows_from c.edges es) ≡ rest =
+                sym (drop-drop 1 p (stood_from n k (rows_from c.edges es))) ∙ ap (λ (l : List Edge). drop 1 l) now in
+                record { after = omega (arith, l.low); within = h; rows = now ∙ ap (λ (l : List Edge). edge_of (row_at es at) ∷ l) (sym later) }
+
+            pub seek-more : (left ≡ 0 → ⊥) → Seeking c.edges es n k p (at + 1) (left - 1)
+            seek-more f =
+                let z : left ≡ suc (left - 1) = omega arith in
+                let now : drop (suc (left - 1)) (edge_of (row_at es at) ∷ rest) ≡ rest_from n k p (rows_from c.edges es) = rw (here old, z) at l.same in
+                record { within = omega arith; begun = omega (arith, l.begun); low = omega (arith, l.low); same = now }
+
+          pub seek-young : b ≡ false → Seeking c.edges es n k p (at + 1) left
+          seek-young t = record { within = omega arith; begun = omega (arith, l.begun); low = omega (arith, l.low); same = rw (← young (sym q ∙ t)) l.same }
 
 -- ---- the rows that stood stay
 
@@ -171,27 +164,27 @@ row_put z c es r e p i room =
 
 module _ (z : lent.Room) (c : Counts) (es : List ℕ) (r : Rowed z c es) (e : held.Edge) (g : Grew) (es₁ : List ℕ)
     (w : (ns : List ℕ) → Rows z c (add_edge (room_of z) (grown_of c ns es) (edge_is e)) g ns es₁) where
-  pub put_refused : (y : why.Fault) → g ≡ Refused y → (ns : List ℕ) → Rows z c (add_edge (room_of z) (grown_of c ns es) (edge_is e)) (Refused y) ns es₁
+  pub put_refused : (y : why.Fault) → g ≡ Err y → (ns : List ℕ) → Rows z c (add_edge (room_of z) (grown_of c ns es) (edge_is e)) (Err y) ns es₁
   put_refused y h ns = record { answer = rw h at (w ns).answer; rowed = tt }
 
-  module _ (q : Puts c (edge_is e) es g es₁) (d : Counts) (h : g ≡ On d) (p : ℕ) (at : p ≡ place_of e.from.0 e.kind e.symbol.0 (edges_in c.edges es)) where
-    put_on : Puts c (edge_is e) es (On d) es₁
+  module _ (q : Puts c (edge_is e) es g es₁) (d : Counts) (h : g ≡ Ok d) (p : ℕ) (at : p ≡ place_of e.key.from.0 e.key.kind e.key.symbol.0 (edges_in c.edges es)) where
+    put_on : Puts c (edge_is e) es (Ok d) es₁
     put_on = rw h at q
 
-    put-rowed : StillRowed z c.nodes (On d) es₁
+    put-rowed : StillRowed z c.nodes (Ok d) es₁
     put-rowed = rw h at (w []).rowed
 
     one_more : d.edges ≡ c.edges + 1
     one_more = ap (λ (c : Counts). c.edges) put_on.0
 
     place_in : p ≤ c.edges
-    place_in = omega (arith, at, place_inside z c es r e.from.0 e.kind e.symbol.0)
+    place_in = omega (arith, at, place_inside z c es r e.key.from.0 e.key.kind e.key.symbol.0)
 
     -- its last word can be written
     pub can-mark : p < length es₁ / row_width
     can-mark = omega (arith, place_in, one_more, put-rowed.0.within, put-rowed.0.fits)
 
-    pub row-aged : (ns : List ℕ) → Rows z c (add_edge (room_of z) (grown_of c ns es) (edge_is e)) (On d) ns (set es₁ (row_width * p + 15) c.edges)
+    pub row-aged : (ns : List ℕ) → Rows z c (add_edge (room_of z) (grown_of c ns es) (edge_is e)) (Ok d) ns (set es₁ (row_width * p + 15) c.edges)
     row-aged ns =
         let m = row-marked z d es₁ p c.edges put-rowed.0 (omega (arith, place_in, one_more)) (omega (arith, one_more)) in
         record { answer = rw m.0 (rw h at (w ns).answer); rowed = (m.1, put-rowed.1) }
@@ -205,51 +198,30 @@ module _ (z : lent.Room) (c : Counts) (es : List ℕ) (r : Rowed z c es) (e : he
 
 -- ---- one row
 
-module _ (y : Fault) (ds : Res Fault (List Reduce)) (e : held.Edge) (a : Added) (w : Lists y ds e a) where
-  -- it leads where the edge does
-  pub listed-to : a.edge.to.0 ≡ e.to.0
-  listed-to = ap (λ (e : Edge). e.to) w.rest
-
-  -- and no row has its key
-  pub listed-new : (n : ℕ) (es : List Edge) → find es n e.kind e.symbol.0 ≡ none → find es n a.edge.kind a.edge.symbol.0 ≡ none
-  listed-new n es f =
-      let k : a.edge.kind ≡ e.kind = ap (λ (e : Edge). e.kind) w.rest in
-      let s : a.edge.symbol.0 ≡ e.symbol.0 = ap (λ (e : Edge). e.sym) w.rest in
-      rw (k, s) f
-
-  listed-row : (n : ℕ)
-      → row_from n (edge_is e) (edge_is a.edge).reduces
-      ≡ record { from = n; kind = a.edge.kind; sym = a.edge.symbol.0; to = a.edge.to.0; reduces = (edge_is a.edge).reduces }
-  listed-row n = ap (λ (e : Edge). row_from n e (edge_is a.edge).reduces) (sym w.rest)
-
-module _ (z : lent.Room) (c : Counts) (ns es : List ℕ) (r : Rowed z c es) (m : NodeNo) (list e : held.Edge) where
+module _ (z : lent.Room) (c : Counts) (ns es : List ℕ) (r : Rowed z c es) (m : NodeNo) (list : Reduces) (e : held.Edge) where
   abbrev copied : Res Fault Grown
-  copied = copy_with (room_of z) m.0 (edge_is list).reduces (grown_of c ns es) (edge_is e) (find (edges_in c.edges es) m.0 e.kind e.symbol.0)
+  copied = copy_with (room_of z) m.0 (reduces_are list) (grown_of c ns es) (edge_is e) (find (edges_in c.edges es) m.0 e.key.kind e.key.symbol.0)
 
-  pub copy-kept : (i : ℕ) → FoundAt c es m.0 e.kind e.symbol.0 i → Rows z c copied (On c) ns es
+  pub copy-kept : (o : Option ℕ) → Looks c es m.0 e.key.kind e.key.symbol.0 o → is_some o ≡ true → Rows z c copied (Ok c) ns es
   unfolding copy_with
-  copy-kept i h = record { answer = rw h.finds; rowed = (r, refl) }
+  copy-kept (Some i) h t = record { answer = rw h.finds; rowed = (r, refl) }
+  copy-kept None h t = absurd (false≢true t)
 
-  module _ (f : find (edges_in c.edges es) m.0 e.kind e.symbol.0 ≡ none)
-      (a : Added) (w : Lists far_offset (raised_on e.kind (edge_is list).reduces) list a) where
-    pub copy-far : a.ok ≡ false → Rows z c copied (Refused code.FarOffset) ns es
+  module _ (f : find (edges_in c.edges es) m.0 e.key.kind e.key.symbol.0 ≡ none) where
+    pub copy-far : (y : why.Fault) → raised_on e.key.kind (reduces_are list) ≡ no (fault_of y) → Rows z c copied (Err y) ns es
     unfolding copy_with bind
-    copy-far h = record { answer = rw (f, unlisted w h); rowed = tt }
+    copy-far y h = record { answer = rw (f, h); rowed = tt }
 
-    module _ (t : a.ok ≡ true) (b : Added) (v : Lists sixth_reduce (extend (edge_is e).reduces (edge_is a.edge).reduces) e b) where
-      pub copy-sixth : b.ok ≡ false → Rows z c copied (Refused code.SixthReduce) ns es
+    module _ (more : Reduces) (t : raised_on e.key.kind (reduces_are list) ≡ ok (reduces_are more)) where
+      pub copy-sixth : (y : why.Fault) → extend (reduces_are e.reduces) (reduces_are more) ≡ no (fault_of y) → Rows z c copied (Err y) ns es
       unfolding copy_with bind
-      copy-sixth h = record { answer = rw (f, listed w t, unlisted v h); rowed = tt }
+      copy-sixth y h = record { answer = rw (f, t, h); rowed = tt }
 
-      pub copy-added : b.ok ≡ true → (x : Grew) (es' : List ℕ)
-          → Rows z c (add_edge (room_of z) (grown_of c ns es)
-          (record { from = m.0; kind = b.edge.kind; sym = b.edge.symbol.0; to = b.edge.to.0; reduces = (edge_is b.edge).reduces })) x ns es'
+      pub copy-added : (ds : Reduces) → extend (reduces_are e.reduces) (reduces_are more) ≡ ok (reduces_are ds) → (x : Grew) (es' : List ℕ)
+          → Rows z c (add_edge (room_of z) (grown_of c ns es) (record { from = m.0; kind = e.key.kind; sym = e.key.symbol.0; to = e.to.0; reduces = reduces_are ds })) x ns es'
           → Rows z c copied x ns es'
       unfolding copy_with bind
-      copy-added h x es' k = record {
-        answer = rw (f, listed w t, listed v h, listed-row sixth_reduce _ e b v m.0) k.answer;
-        rowed = k.rowed;
-      }
+      copy-added ds h x es' k = record { answer = rw (f, t, h) k.answer; rowed = k.rowed }
 
 -- ---- all rows
 
@@ -274,12 +246,12 @@ copying-start z n m ds c es r = record {
 
 module _ (z : lent.Room) (n m : ℕ) (ds : List Reduce) (c₀ : Counts) (es₀ : List ℕ) (c : Counts) (es : List ℕ) (p : ℕ)
     (l : Copying z n m ds c₀ es₀ c es p) where
-  pub copying-none : rest_from n c₀.edges p (rows_from c.edges es) ≡ [] → (ns : List ℕ) → Rows z c₀ (clone_with_reduce_vec (room_of z) n m ds (grown_of c₀ ns es₀)) (On c) ns es
+  pub copying-none : rest_from n c₀.edges p (rows_from c.edges es) ≡ [] → (ns : List ℕ) → Rows z c₀ (clone_with_reduce_vec (room_of z) n m ds (grown_of c₀ ns es₀)) (Ok c) ns es
   unfolding copy_rows
   copying-none h ns = record { answer = rw h at (l.same ns); rowed = (l.rowed, l.nodes-kept) }
 
   -- no more of them than rows that stood
-  pub copying-end : c₀.edges ≤ p → (ns : List ℕ) → Rows z c₀ (clone_with_reduce_vec (room_of z) n m ds (grown_of c₀ ns es₀)) (On c) ns es
+  pub copying-end : c₀.edges ≤ p → (ns : List ℕ) → Rows z c₀ (clone_with_reduce_vec (room_of z) n m ds (grown_of c₀ ns es₀)) (Ok c) ns es
   copying-end h =
       let k = c₀.edges in
       let same : stood_from n k (rows_from c.edges es) ≡ stood_from n k (rows_from k es₀) =
@@ -295,14 +267,14 @@ module _ (z : lent.Room) (n m : ℕ) (ds : List Reduce) (c₀ : Counts) (es₀ :
     copy_step ns = rw a.rows at (l.same ns)
 
     module _ (e : held.Edge) (o : Holds e (edge_of (row_at es i))) (r : Grew) (es' : List ℕ)
-        (w : (ns : List ℕ) → Rows z c (copy_with (room_of z) m ds (grown_of c ns es) (edge_is e) (find (edges_in c.edges es) m e.kind e.symbol.0)) r ns es') where
+        (w : (ns : List ℕ) → Rows z c (copy_with (room_of z) m ds (grown_of c ns es) (edge_is e) (find (edges_in c.edges es) m e.key.kind e.key.symbol.0)) r ns es') where
       row-answer : (ns : List ℕ)
           → grew_of r ns es' ≡ copy_with (room_of z) m ds (grown_of c ns es) (edge_of (row_at es i)) (find (edges_in c.edges es) m (edge_of (row_at es i)).kind (edge_of (row_at es i)).sym)
       row-answer ns = (w ns).answer ∙ ap (λ (e : Edge). copy_with (room_of z) m ds (grown_of c ns es) e (find (edges_in c.edges es) m e.kind e.sym)) o.says
 
-      pub copying-more : Keeps c es r es' → (d : Counts) → r ≡ On d → length es' ≡ length es → Copying z n m ds c₀ es₀ d es' (p + 1)
+      pub copying-more : Keeps c es r es' → (d : Counts) → r ≡ Ok d → length es' ≡ length es → Copying z n m ds c₀ es₀ d es' (p + 1)
       copying-more v d h k =
-          let s : StillRowed z c.nodes (On d) es' = rw h at (w []).rowed in
+          let s : StillRowed z c.nodes (Ok d) es' = rw h at (w []).rowed in
           let x : Kept c es d es' = rw h at v in
           record {
             rowed = s.0;
@@ -312,6 +284,6 @@ module _ (z : lent.Room) (n m : ℕ) (ds : List Reduce) (c₀ : Counts) (es₀ :
             same = λ ns. rw (stood-kept c es d es' x n c₀.edges (p + 1) l.stood.edges) (sym (on_then r ns es' _ (row-answer ns) d h _) ∙ copy_step ns);
           }
 
-      pub copying-refused : (y : why.Fault) → r ≡ Refused y → (ns : List ℕ)
-          → Rows z c₀ (clone_with_reduce_vec (room_of z) n m ds (grown_of c₀ ns es₀)) (Refused y) ns es'
+      pub copying-refused : (y : why.Fault) → r ≡ Err y → (ns : List ℕ)
+          → Rows z c₀ (clone_with_reduce_vec (room_of z) n m ds (grown_of c₀ ns es₀)) (Err y) ns es'
       copying-refused y h ns = record { answer = sym (refused-then r ns es' _ (row-answer ns) y h _) ∙ copy_step ns; rowed = tt }

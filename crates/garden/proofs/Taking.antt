@@ -1,8 +1,8 @@
 -- Laws of one row of a clone.
-use mathlib.Core.Path.{◌≡◌, refl, sym, ap, ◌∙◌}
+use mathlib.Core.Path.{◌≡◌, sym, ap, ◌∙◌}
 use mathlib.Core.Bool.{Bool, true, false, not, ◌&&◌}
 use mathlib.Core.List.{List, [], ◌∷◌, ◌++◌}
-use mathlib.Core.Option.{Option, some, none}
+use mathlib.Core.Option as math
 use Prim.Native.Nat.{ℕ, ◌+◌, ◌≤◌, ◌<◌}
 use native.Mathlib.Numerals.{add-one}
 use native.Mathlib.Omega.{arith}
@@ -10,53 +10,40 @@ use lib.Dec.{eqb, ltb}
 use lib.ListN.{length, take, set, get_or, length-append, length-set}
 use lib.Seq.{take-suc-set, get_or-take}
 use borrow.Author.Tests.{lt-ltb, le-ltb, eq-eqb, ne_eqb}
-use Rattle.words.specs.Limits.{most_reduces}
-use Rattle.words.specs.Outcome.{Res, ok, bind, when}
-use Rattle.words.specs.Numbers.{Fault, no_node, no_edge, sixth_reduce, far_offset, bad_copy}
+use Rattle.std.specs.Prelude.{Some, None, Ok, Err}
+use Rattle.words.specs.Outcome.{Res, ok, no, bind, when}
+use Rattle.words.specs.Numbers.{Fault, no_node, no_edge, bad_copy}
+use Rattle.words.specs.declared.NodeNo.{NodeNo}
 use Rattle.rows.specs.Rows.{Reduce, Edge, edge_of, insert_edge, find}
-use Rattle.rows.specs.Code.{edge_is, Holds, row_at}
+use Rattle.rows.specs.Code.{reduces_are, edge_is, Holds, row_at}
 use Rattle.rows.specs.declared.Edge as held
-use Rattle.rows.specs.declared.Added.{Added}
+use Rattle.rows.specs.declared.reduce_list.Reduces.{Reduces}
 use Rattle.tree.specs.Grow.{Grown, Room, add_edge, branch_at, apart}
-use Rattle.tree.specs.Code.{room_of, edges_in, grown_of, FoundAt, Stands, Rows, Meets}
+use Rattle.tree.specs.Code.{Grew, room_of, fault_of, edges_in, grown_of, FoundAt, Rowed, Stands, Rows, Meets}
 use Rattle.tree.proofs.Theorems.Counted.{nodes-count, branch-is, apart-is}
 use Rattle.tree.specs.declared.Counts.{Counts}
 use Rattle.tree.specs.declared.Room as lent
 use Rattle.tree.specs.declared.Fault as why
 use Rattle.tree.specs.declared.Fault.TheVariants as code
-use Rattle.tree.specs.declared.Grew.{Grew}
-use Rattle.tree.specs.declared.Grew.TheVariants.{On, Refused}
-use Rattle.tree.proofs.Laws.{held_to, both-stand}
-use Rattle.garden.specs.Garden.{Cloning, Taken, raised_on, leaf_reduces, leaf_rule, take_leaf, add_branch, store_other, new_branch, old_branch, take_branch, take_by, take_up, clone_with_reduce_vec}
-use Rattle.garden.specs.Code.{Lists, listed_of, Carries, leaf_row, leaf_rows, Keeps, cloning_of, Takes}
-use Rattle.garden.specs.declared.lists.Listed.{Listed}
-use Rattle.garden.specs.declared.row.Taken as row
+use Rattle.tree.proofs.Laws.{row-leads, both-stand}
+use Rattle.garden.specs.Garden.{Taken, raised_on, leaf_reduces, leaf_rule, take_leaf, add_branch, store_other, new_branch, old_branch, take_branch, take_by, take_up, clone_with_reduce_vec}
+use Rattle.garden.specs.Code.{Took, Kept, Keeps, Takes}
+use Rattle.garden.specs.declared.row.Cloning.{Cloning}
 
 -- ---- the rows that stood
 
 -- there is a node more
 pub keeps-less : (c : Counts) (es : List ℕ) (r : Grew) (es' : List ℕ) → Keeps (record { nodes = c.nodes + 1; edges = c.edges }) es r es' → Keeps c es r es'
-keeps-less c es (On d) es' k = record { nodes = omega (arith, k.nodes); edges = k.edges; stood = k.stood }
-keeps-less c es (Refused f) es' k = tt
+keeps-less c es (Ok d) es' k = record { nodes = omega (arith, k.nodes); edges = k.edges; stood = k.stood }
+keeps-less c es (Err f) es' k = tt
 
-pub refused-keeps : (c : Counts) (es es' : List ℕ) (u : row.Taken) (f : why.Fault) (e : held.Edge) → u ≡ record { grew = Refused f; begins = false; next = e } → Keeps c es u.grew es'
-refused-keeps c es es' u f e q = rw q tt
+-- what a step that is done keeps
+pub keeps-of : (c : Counts) (es : List ℕ) (r : Grew) (es' : List ℕ) → Keeps c es r es' → (d : Counts) → r ≡ Ok d → Kept c es d es'
+keeps-of c es r es' k d h = rw h at k
 
--- ---- a row to the shadow's node
-
-module _ (z : lent.Room) (c : Counts) (ns es : List ℕ) (t m : ℕ) (l : Listed) where
-  abbrev rowed : Res Fault Grown
-  rowed = leaf_row (room_of z) t m l.edge (listed_of l) (grown_of c ns es)
-
-  pub list-refused : l.ok ≡ false → Rows z c rowed (Refused l.why) ns es
-  unfolding bind
-  list-refused h = record { answer = rw h; rowed = tt }
-
-  pub row-added : (r : Grew) (es' : List ℕ) → l.ok ≡ true
-      → Rows z c (add_edge (room_of z) (grown_of c ns es) (record { from = m; kind = l.edge.kind; sym = l.edge.symbol.0; to = t; reduces = (edge_is l.edge).reduces })) r ns es'
-      → Rows z c rowed r ns es'
-  unfolding bind
-  row-added r es' h w = record { answer = rw h w.answer; rowed = w.rowed }
+-- where a row that is there leads
+pub leads-in : (z : lent.Room) (c : Counts) (es : List ℕ) → Rowed z c es → (i : ℕ) → i < c.edges → (t : NodeNo) → t.0 ≡ (edge_of (row_at es i)).to → t.0 < c.nodes
+leads-in z c es r i h t e = rw e (row-leads z c es i r h).to_in
 
 -- ---- a new branch
 
@@ -75,7 +62,7 @@ branch-longer z g m e g' h = go (ltb (length g.nodes) z.nodes) (ltb (length g.ed
 
 module _ (z : lent.Room) (c : Counts) (ns es : List ℕ) (s : Stands z c ns es) where
   module _ (m : ℕ) (e : held.Edge) where
-    pub branch-refused : z.nodes ≤ c.nodes → Meets z (add_branch (room_of z) (grown_of c ns es) m (edge_is e)) (Refused code.NoNode) ns es
+    pub branch-refused : z.nodes ≤ c.nodes → Meets z (add_branch (room_of z) (grown_of c ns es) m (edge_is e)) (Err code.NoNode) ns es
     unfolding add_branch bind when
     branch-refused h = record { answer = rw (nodes-count z c ns es s, le-ltb c.nodes z.nodes h); stands = tt }
 
@@ -83,7 +70,7 @@ module _ (z : lent.Room) (c : Counts) (ns es : List ℕ) (s : Stands z c ns es) 
         → let c' : Counts = record { nodes = c.nodes + 1; edges = c.edges } in
         let ns' = set ns c.nodes 0 in
         c.nodes < z.nodes
-        → Rows z c' (add_edge (room_of z) (grown_of c' ns' es) (record { from = m; kind = e.kind; sym = e.symbol.0; to = c.nodes; reduces = (edge_is e).reduces })) r ns' es'
+        → Rows z c' (add_edge (room_of z) (grown_of c' ns' es) (record { from = m; kind = e.key.kind; sym = e.key.symbol.0; to = c.nodes; reduces = reduces_are e.reduces })) r ns' es'
         → Meets z (add_branch (room_of z) (grown_of c ns es) m (edge_is e)) r ns' es'
     unfolding add_branch bind when
     branch-added r es' h rows =
@@ -95,162 +82,139 @@ module _ (z : lent.Room) (c : Counts) (ns es : List ℕ) (s : Stands z c ns es) 
         }
 
     -- the clone to it can begin
-    module _ (ds : List Reduce) (ns' es' : List ℕ) where
-      pub clone-begins : (r : Grew) (next : held.Edge) → Meets z (add_branch (room_of z) (grown_of c ns es) m (edge_is e)) r ns' es'
-          → cloning_of next ≡ record { from = e.to.0; to = c.nodes; stored = ds } → next.count ≤ most_reduces
-          → Takes z (new_branch (room_of z) m ds (grown_of c ns es) (edge_is e)) (record { grew = r; begins = true; next = next }) ns' es'
+    module _ (ds : Reduces) (r : Grew) (ns' es' : List ℕ) (w : Meets z (add_branch (room_of z) (grown_of c ns es) m (edge_is e)) r ns' es') where
+      pub clone-begins : (d : Counts) → r ≡ Ok d
+          → Takes z (new_branch (room_of z) m (reduces_are ds) (grown_of c ns es) (edge_is e))
+          (Ok (record { counts = d; next = Some (record { from = e.to; to = record { 0 = c.nodes }; stored = ds }) })) ns' es'
       unfolding new_branch bind
-      clone-begins (On d) next w q few =
-          let t : Stands z d ns' es' = w.stands in
-          let longer = branch-longer (room_of z) (grown_of c ns es) m (edge_is e) (grown_of d ns' es') w.answer in
+      clone-begins d h =
+          let v : Meets z (add_branch (room_of z) (grown_of c ns es) m (edge_is e)) (Ok d) ns' es' = rw h at w in
+          let t : Stands z d ns' es' = v.stands in
+          let longer = branch-longer (room_of z) (grown_of c ns es) m (edge_is e) (grown_of d ns' es') v.answer in
           let new = nodes-count z d ns' es' t in
-          record { answer = rw (← w.answer, nodes-count z c ns es s, q); stands = (t, omega (arith, nodes-count z c ns es s, ap (λ (k : Cloning). k.to) q), few) }
-      clone-begins (Refused f) next w q few = record { answer = rw (← w.answer); stands = tt }
+          record { answer = rw (← v.answer, nodes-count z c ns es s); stands = (t, omega (arith, nodes-count z c ns es s)) }
+
+      pub none-begins : (f : why.Fault) → r ≡ Err f → Takes z (new_branch (room_of z) m (reduces_are ds) (grown_of c ns es) (edge_is e)) (Err f) ns' es'
+      unfolding new_branch bind
+      none-begins f h =
+          let v : Meets z (add_branch (room_of z) (grown_of c ns es) m (edge_is e)) (Err f) ns' es' = rw h at w in
+          record { answer = rw (← v.answer); stands = tt }
 
 -- ---- the branch that is there
 
-module _ (z : lent.Room) (c : Counts) (ns es : List ℕ) (s : Stands z c ns es) (raised e d : held.Edge) (a : Added)
-    (w : Lists sixth_reduce (store_other (edge_is raised).reduces (edge_is e) (edge_is d)) raised a) where
+module _ (z : lent.Room) (c : Counts) (ns es : List ℕ) (s : Stands z c ns es) (ds : List Reduce) (e d : held.Edge) where
   abbrev kept : Res Fault Taken
-  kept = old_branch (edge_is raised).reduces (grown_of c ns es) (edge_is e) (edge_is d)
+  kept = old_branch ds (grown_of c ns es) (edge_is e) (edge_is d)
 
-  pub other-refused : (u : row.Taken) → u ≡ record { grew = Refused code.SixthReduce; begins = false; next = e } → a.ok ≡ false → Takes z kept u ns es
+  pub other-refused : (f : why.Fault) → store_other ds (edge_is e) (edge_is d) ≡ no (fault_of f) → Takes z kept (Err f) ns es
   unfolding old_branch bind
-  other-refused u q h = rw q (record { answer = rw (← w.answer, h); stands = tt })
+  other-refused f h = record { answer = rw h; stands = tt }
 
-  pub other-begins : (next : held.Edge) → a.ok ≡ true → cloning_of next ≡ record { from = e.to.0; to = d.to.0; stored = (edge_is a.edge).reduces }
-      → d.to.0 < c.nodes → next.count ≤ most_reduces → Takes z kept (record { grew = On c; begins = true; next = next }) ns es
+  pub other-begins : (stored : Reduces) → store_other ds (edge_is e) (edge_is d) ≡ ok (reduces_are stored) → d.to.0 < c.nodes
+      → Takes z kept (Ok (record { counts = c; next = Some (record { from = e.to; to = d.to; stored = stored }) })) ns es
   unfolding old_branch bind
-  other-begins next h q to few = record { answer = rw (← w.answer, h, q); stands = (s, omega (arith, ap (λ (k : Cloning). k.to) q), few) }
-
--- ---- the rows of the shadow's node
-
-module _ (z : lent.Room) (c : Counts) (ns es : List ℕ) (t n : ℕ) (l : Listed) (t-in : t < c.nodes) (n-in : n < c.nodes)
-    (b : Bool) (q : b ≡ not (eqb t n) && eqb (get_or ns t 0) 0 && eqb (get_or ns n 0) 0) where
-  abbrev copied : Res Fault Grown
-  copied = leaf_rows (room_of z) t n (listed_of l) (grown_of c ns es)
-
-  test : apart (grown_of c ns es) t n ≡ b
-  test = apart-is c ns es t n t-in n-in ∙ sym q
-
-  pub copy-refused : b ≡ false → Rows z c copied (Refused code.BadCopy) ns es
-  unfolding bind when
-  copy-refused h = record { answer = rw (test, h); rowed = tt }
-
-  module _ (h : b ≡ true) where
-    pub copy-unlisted : l.ok ≡ false → Rows z c copied (Refused l.why) ns es
-    unfolding bind when
-    copy-unlisted k = record { answer = rw (test, h, k); rowed = tt }
-
-    pub rows-copied : l.ok ≡ true → (r : Grew) (es' : List ℕ)
-        → Rows z c (clone_with_reduce_vec (room_of z) t n (edge_is l.edge).reduces (grown_of c ns es)) r ns es' → Rows z c copied r ns es'
-    unfolding bind when
-    rows-copied k r es' w = record { answer = rw (test, h, k) w.answer; rowed = w.rowed }
+  other-begins stored h to = record { answer = rw h; stands = (s, to) }
 
 -- ---- a row that leads to a leaf
 
-module _ (z : lent.Room) (c : Counts) (ns es : List ℕ) (t : ℕ) (clone e : held.Edge) (to : e.to.0 < c.nodes)
-    (l : Listed) (w : Carries (leaf_reduces (get_or ns e.to.0 0) (edge_is e) (edge_is clone).reduces) e l) where
+module _ (z : lent.Room) (c : Counts) (ns es : List ℕ) (t : ℕ) (clone : Cloning) (e : held.Edge) (to : e.to.0 < c.nodes)
+    (x : Res Fault (List Reduce)) (w : leaf_reduces (get_or ns e.to.0 0) (edge_is e) (reduces_are clone.stored) ≡ x) where
+  abbrev found : math.Option Edge
+  found = find (edges_in c.edges es) clone.to.0 e.key.kind e.key.symbol.0
+
   abbrev taken : Res Fault Grown
-  taken = take_leaf (room_of z) t clone.to.0 (edge_is clone).reduces (grown_of c ns es) (edge_is e)
-      (find (edges_in c.edges es) clone.to.0 e.kind e.symbol.0)
+  taken = take_leaf (room_of z) t clone.to.0 (reduces_are clone.stored) (grown_of c ns es) (edge_is e) found
 
-  listed-is : leaf_reduces (leaf_rule (grown_of c ns es) (edge_is e)) (edge_is e) (edge_is clone).reduces ≡ listed_of l
-  listed-is = rw (get_or-take c.nodes ns e.to.0 0 to) (sym w.answer)
+  listed-is : leaf_reduces (leaf_rule (grown_of c ns es) (edge_is e)) (edge_is e) (reduces_are clone.stored) ≡ x
+  listed-is = rw (get_or-take c.nodes ns e.to.0 0 to) w
 
-  -- the key that is looked up is that of the row
-  pub carried-new : find (edges_in c.edges es) clone.to.0 e.kind e.symbol.0 ≡ none → find (edges_in c.edges es) clone.to.0 l.edge.kind l.edge.symbol.0 ≡ none
-  carried-new f =
-      let kind : l.edge.kind ≡ e.kind = ap (λ (e : Edge). e.kind) w.rest in
-      let symbol : l.edge.symbol.0 ≡ e.symbol.0 = ap (λ (e : Edge). e.sym) w.rest in
-      rw (kind, symbol) f
+  module _ (f : found ≡ math.none) where
+    pub leaf-unlisted : (y : why.Fault) → x ≡ no (fault_of y) → Rows z c taken (Err y) ns es
+    unfolding take_leaf bind
+    leaf-unlisted y h = record { answer = rw (f, listed-is, h); rowed = tt }
 
-  pub leaf-free : find (edges_in c.edges es) clone.to.0 e.kind e.symbol.0 ≡ none → (r : Grew) (es' : List ℕ)
-      → Rows z c (leaf_row (room_of z) t clone.to.0 l.edge (listed_of l) (grown_of c ns es)) r ns es' → Rows z c taken r ns es'
-  unfolding take_leaf
-  leaf-free f r es' k =
-      let kind : l.edge.kind ≡ e.kind = ap (λ (e : Edge). e.kind) w.rest in
-      let symbol : l.edge.symbol.0 ≡ e.symbol.0 = ap (λ (e : Edge). e.sym) w.rest in
-      record { answer = rw (f, listed-is) (rw (kind, symbol) at k.answer); rowed = k.rowed }
+    pub leaf-free : (ds : Reduces) → x ≡ ok (reduces_are ds) → (r : Grew) (es' : List ℕ)
+        → Rows z c (add_edge (room_of z) (grown_of c ns es) (record { from = clone.to.0; kind = e.key.kind; sym = e.key.symbol.0; to = t; reduces = reduces_are ds })) r ns es'
+        → Rows z c taken r ns es'
+    unfolding take_leaf bind
+    leaf-free ds h r es' k = record { answer = rw (f, listed-is, h) k.answer; rowed = k.rowed }
 
-  module _ (i : ℕ) (f : FoundAt c es clone.to.0 e.kind e.symbol.0 i) (d : held.Edge) (o : Holds d (edge_of (row_at es i))) where
-    -- the list is that of the tables that were tested
-    there-is : (b : Bool) (copy : Grown → List Reduce → Res Fault Grown)
-        → bind (when b bad_copy (grown_of c ns es)) (λ g. bind (listed_of l) λ ds. copy g ds)
-        ≡ bind (when b bad_copy (grown_of c ns es)) (λ g. bind (leaf_reduces (leaf_rule g (edge_is e)) (edge_is e) (edge_is clone).reduces) λ ds. copy g ds)
-    unfolding bind when
-    there-is true copy = rw listed-is
-    there-is false copy = refl
+  -- the shadow's rows are copied to where the row that is there leads
+  module _ (i : ℕ) (f : FoundAt c es clone.to.0 e.key.kind e.key.symbol.0 i) (d : NodeNo) (o : d.0 ≡ (edge_of (row_at es i)).to) (t-in : t < c.nodes) (d-in : d.0 < c.nodes)
+      (b : Bool) (q : b ≡ not (eqb t d.0) && eqb (get_or ns t 0) 0 && eqb (get_or ns d.0 0) 0) where
+    test : apart (grown_of c ns es) t (edge_of (row_at es i)).to ≡ b
+    test = rw (← o) (apart-is c ns es t d.0 t-in d-in ∙ sym q)
 
-    pub leaf-there : (r : Grew) (es' : List ℕ)
-        → Rows z c (leaf_rows (room_of z) t d.to.0 (listed_of l) (grown_of c ns es)) r ns es' → Rows z c taken r ns es'
-    unfolding take_leaf
-    leaf-there r es' k = record { answer = rw (f.finds, ← (held_to d _ o)) (k.answer ∙ there-is _ _); rowed = k.rowed }
+    pub copy-refused : b ≡ false → Rows z c taken (Err code.BadCopy) ns es
+    unfolding take_leaf bind when
+    copy-refused h = record { answer = rw (f.finds, test, h); rowed = tt }
+
+    module _ (h : b ≡ true) where
+      pub copy-unlisted : (y : why.Fault) → x ≡ no (fault_of y) → Rows z c taken (Err y) ns es
+      unfolding take_leaf bind when
+      copy-unlisted y k = record { answer = rw (f.finds, test, h, listed-is, k); rowed = tt }
+
+      pub rows-copied : (ds : Reduces) → x ≡ ok (reduces_are ds) → (r : Grew) (es' : List ℕ)
+          → Rows z c (clone_with_reduce_vec (room_of z) t d.0 (reduces_are ds) (grown_of c ns es)) r ns es' → Rows z c taken r ns es'
+      unfolding take_leaf bind when
+      rows-copied ds k r es' v = record { answer = rw (f.finds, test, h, listed-is, k, ← o) v.answer; rowed = v.rowed }
 
 -- ---- a row that leads to a branch
 
-module _ (z : lent.Room) (c : Counts) (ns es : List ℕ) (clone e : held.Edge) (a : Added) (w : Lists far_offset (raised_on e.kind (edge_is clone).reduces) clone a) where
-  abbrev branched : Option Edge → Res Fault Taken
-  branched = take_branch (room_of z) clone.to.0 (edge_is clone).reduces (grown_of c ns es) (edge_is e)
+module _ (z : lent.Room) (c : Counts) (ns es : List ℕ) (clone : Cloning) (e : held.Edge) where
+  abbrev branched : math.Option Edge → Res Fault Taken
+  branched = take_branch (room_of z) clone.to.0 (reduces_are clone.stored) (grown_of c ns es) (edge_is e)
 
-  pub raised-new : find (edges_in c.edges es) clone.to.0 e.kind e.symbol.0 ≡ none → find (edges_in c.edges es) a.edge.to.0 e.kind e.symbol.0 ≡ none
-  raised-new f = let to : a.edge.to.0 ≡ clone.to.0 = ap (λ (e : Edge). e.to) w.rest in rw to f
-
-  pub raise-refused : (u : row.Taken) (o : Option Edge) → u ≡ record { grew = Refused code.FarOffset; begins = false; next = e } → a.ok ≡ false → Takes z (branched o) u ns es
+  pub raise-refused : (o : math.Option Edge) (y : why.Fault) → raised_on e.key.kind (reduces_are clone.stored) ≡ no (fault_of y) → Takes z (branched o) (Err y) ns es
   unfolding take_branch bind
-  raise-refused u none q h = rw q (record { answer = rw (← w.answer, h); stands = tt })
-  raise-refused u (some d) q h = rw q (record { answer = rw (← w.answer, h); stands = tt })
+  raise-refused math.none y h = record { answer = rw h; stands = tt }
+  raise-refused (math.some d) y h = record { answer = rw h; stands = tt }
 
-  module _ (h : a.ok ≡ true) (u : row.Taken) (ns' es' : List ℕ) where
-    pub branch-free : find (edges_in c.edges es) clone.to.0 e.kind e.symbol.0 ≡ none
-        → Takes z (new_branch (room_of z) a.edge.to.0 (edge_is a.edge).reduces (grown_of c ns es) (edge_is e)) u ns' es'
-        → Takes z (branched (find (edges_in c.edges es) clone.to.0 e.kind e.symbol.0)) u ns' es'
+  module _ (raised : Reduces) (h : raised_on e.key.kind (reduces_are clone.stored) ≡ ok (reduces_are raised)) (u : Took) (ns' es' : List ℕ) where
+    pub branch-free : find (edges_in c.edges es) clone.to.0 e.key.kind e.key.symbol.0 ≡ math.none
+        → Takes z (new_branch (room_of z) clone.to.0 (reduces_are raised) (grown_of c ns es) (edge_is e)) u ns' es'
+        → Takes z (branched (find (edges_in c.edges es) clone.to.0 e.key.kind e.key.symbol.0)) u ns' es'
     unfolding take_branch bind
-    branch-free f k =
-        let to : a.edge.to.0 ≡ clone.to.0 = ap (λ (e : Edge). e.to) w.rest in
-        record { answer = rw (f, ← w.answer, h) (rw to at k.answer); stands = k.stands }
+    branch-free f k = record { answer = rw (f, h) k.answer; stands = k.stands }
 
-    pub branch-there : (i : ℕ) (d : held.Edge) → FoundAt c es clone.to.0 e.kind e.symbol.0 i → Holds d (edge_of (row_at es i))
-        → Takes z (old_branch (edge_is a.edge).reduces (grown_of c ns es) (edge_is e) (edge_is d)) u ns' es'
-        → Takes z (branched (find (edges_in c.edges es) clone.to.0 e.kind e.symbol.0)) u ns' es'
+    pub branch-there : (i : ℕ) (d : held.Edge) → FoundAt c es clone.to.0 e.key.kind e.key.symbol.0 i → Holds d (edge_of (row_at es i))
+        → Takes z (old_branch (reduces_are raised) (grown_of c ns es) (edge_is e) (edge_is d)) u ns' es'
+        → Takes z (branched (find (edges_in c.edges es) clone.to.0 e.key.kind e.key.symbol.0)) u ns' es'
     unfolding take_branch bind
     branch-there i d f o k = record {
-      answer = rw (f.finds, ← w.answer, h) (k.answer ∙ ap (λ (d : Edge). old_branch (edge_is a.edge).reduces (grown_of c ns es) (edge_is e) d) o.says);
+      answer = rw (f.finds, h) (k.answer ∙ ap (λ (d : Edge). old_branch (reduces_are raised) (grown_of c ns es) (edge_is e) d) o.says);
       stands = k.stands;
     }
 
 -- ---- any row
 
-module _ (z : lent.Room) (c : Counts) (ns es : List ℕ) (s : Stands z c ns es) (t : ℕ) (clone e : held.Edge)
-    (x-in : clone.to.0 < c.nodes) (y-in : e.to.0 < c.nodes) (few : e.count ≤ most_reduces) where
+module _ (z : lent.Room) (c : Counts) (ns es : List ℕ) (s : Stands z c ns es) (t : ℕ) (clone : Cloning) (e : held.Edge)
+    (x-in : clone.to.0 < c.nodes) (y-in : e.to.0 < c.nodes) where
   abbrev up : Res Fault Taken
-  up = take_up (room_of z) t clone.to.0 (edge_is clone).reduces (grown_of c ns es) (edge_is e)
+  up = take_up (room_of z) t clone.to.0 (reduces_are clone.stored) (grown_of c ns es) (edge_is e)
 
-  abbrev refuses : row.Taken → Type 0
-  refuses u = u ≡ record { grew = Refused code.BadCopy; begins = false; next = e }
-
-  pub up-skipped : e.to.0 ≡ clone.to.0 → Takes z up (record { grew = On c; begins = false; next = e }) ns es
+  pub up-skipped : e.to.0 ≡ clone.to.0 → Takes z up (Ok (record { counts = c; next = None })) ns es
   unfolding take_up
-  up-skipped h = record { answer = rw (eq-eqb e.to.0 clone.to.0 h, take_up); stands = (s, y-in, few) }
+  up-skipped h = record { answer = rw (eq-eqb e.to.0 clone.to.0 h, take_up); stands = (s, tt) }
 
   module _ (h : e.to.0 ≡ clone.to.0 → ⊥) where
-    up-past : up ≡ bind (when (not (eqb e.from.0 clone.to.0) && branch_at (grown_of c ns es) clone.to.0) bad_copy (grown_of c ns es)) λ g.
-        take_by (room_of z) t clone.to.0 (edge_is clone).reduces g (edge_is e) (branch_at g e.to.0)
+    up-past : up ≡ bind (when (not (eqb e.key.from.0 clone.to.0) && branch_at (grown_of c ns es) clone.to.0) bad_copy (grown_of c ns es)) λ g.
+        take_by (room_of z) t clone.to.0 (reduces_are clone.stored) g (edge_is e) (branch_at g e.to.0)
     unfolding take_up
     up-past = rw (ne_eqb e.to.0 clone.to.0 h, take_up)
 
-    pub up_same : (u : row.Taken) → refuses u → e.from.0 ≡ clone.to.0 → Takes z up u ns es
+    pub up_same : e.key.from.0 ≡ clone.to.0 → Takes z up (Err code.BadCopy) ns es
     unfolding bind when
-    up_same u q k = rw q (record { answer = rw (up-past, eq-eqb _ _ k); stands = tt })
+    up_same k = record { answer = rw (up-past, eq-eqb _ _ k); stands = tt }
 
-    module _ (k : e.from.0 ≡ clone.to.0 → ⊥) where
-      pub up-leaf : (u : row.Taken) → refuses u → eqb (get_or ns clone.to.0 0) 0 ≡ false → Takes z up u ns es
+    module _ (k : e.key.from.0 ≡ clone.to.0 → ⊥) where
+      pub up-leaf : eqb (get_or ns clone.to.0 0) 0 ≡ false → Takes z up (Err code.BadCopy) ns es
       unfolding bind when
-      up-leaf u q b = rw q (record { answer = rw (up-past, ne_eqb _ _ k, branch-is c ns es clone.to.0 x-in, b); stands = tt })
+      up-leaf b = record { answer = rw (up-past, ne_eqb _ _ k, branch-is c ns es clone.to.0 x-in, b); stands = tt }
 
       module _ (b : eqb (get_or ns clone.to.0 0) 0 ≡ true) where
-        pub up-branch : eqb (get_or ns e.to.0 0) 0 ≡ true → (u : row.Taken) (ns' es' : List ℕ)
-            → Takes z (take_branch (room_of z) clone.to.0 (edge_is clone).reduces (grown_of c ns es) (edge_is e) (find (edges_in c.edges es) clone.to.0 e.kind e.symbol.0)) u ns' es'
+        pub up-branch : eqb (get_or ns e.to.0 0) 0 ≡ true → (u : Took) (ns' es' : List ℕ)
+            → Takes z (take_branch (room_of z) clone.to.0 (reduces_are clone.stored) (grown_of c ns es) (edge_is e) (find (edges_in c.edges es) clone.to.0 e.key.kind e.key.symbol.0)) u ns' es'
             → Takes z up u ns' es'
         unfolding take_by bind when
         up-branch y u ns' es' w = record {
@@ -258,15 +222,19 @@ module _ (z : lent.Room) (c : Counts) (ns es : List ℕ) (s : Stands z c ns es) 
           stands = w.stands;
         }
 
-        pub up-taken : eqb (get_or ns e.to.0 0) 0 ≡ false → (r : Grew) (es' : List ℕ)
-            → Rows z c (take_leaf (room_of z) t clone.to.0 (edge_is clone).reduces (grown_of c ns es) (edge_is e) (find (edges_in c.edges es) clone.to.0 e.kind e.symbol.0)) r ns es'
-            → Takes z up (record { grew = r; begins = false; next = e }) ns es'
-        unfolding take_by bind when
-        up-taken y (On d) es' w = record {
-          answer = rw (up-past, ne_eqb _ _ k, branch-is c ns es clone.to.0 x-in, b, branch-is c ns es e.to.0 y-in, y, ← w.answer);
-          stands = (both-stand z c.nodes (On d) ns es' s.root s.within s.fits s.few w.rowed, rw w.rowed.1 y-in, few);
-        }
-        up-taken y (Refused f) es' w = record {
-          answer = rw (up-past, ne_eqb _ _ k, branch-is c ns es clone.to.0 x-in, b, branch-is c ns es e.to.0 y-in, y, ← w.answer);
-          stands = tt;
-        }
+        module _ (y : eqb (get_or ns e.to.0 0) 0 ≡ false) (r : Grew) (es' : List ℕ)
+            (w : Rows z c (take_leaf (room_of z) t clone.to.0 (reduces_are clone.stored) (grown_of c ns es) (edge_is e) (find (edges_in c.edges es) clone.to.0 e.key.kind e.key.symbol.0)) r ns es') where
+          pub up-taken : (d : Counts) → r ≡ Ok d → Takes z up (Ok (record { counts = d; next = None })) ns es'
+          unfolding take_by bind when
+          up-taken d q =
+              let v : Rows z c (take_leaf (room_of z) t clone.to.0 (reduces_are clone.stored) (grown_of c ns es) (edge_is e) (find (edges_in c.edges es) clone.to.0 e.key.kind e.key.symbol.0)) (Ok d) ns es' = rw q at w in
+              record {
+                answer = rw (up-past, ne_eqb _ _ k, branch-is c ns es clone.to.0 x-in, b, branch-is c ns es e.to.0 y-in, y, ← v.answer);
+                stands = (both-stand z c.nodes (Ok d) ns es' s.root s.within s.fits s.few v.rowed, tt);
+              }
+
+          pub up-refused : (f : why.Fault) → r ≡ Err f → Takes z up (Err f) ns es'
+          unfolding take_by bind when
+          up-refused f q =
+              let v : Rows z c (take_leaf (room_of z) t clone.to.0 (reduces_are clone.stored) (grown_of c ns es) (edge_is e) (find (edges_in c.edges es) clone.to.0 e.key.kind e.key.symbol.0)) (Err f) ns es' = rw q at w in
+              record { answer = rw (up-past, ne_eqb _ _ k, branch-is c ns es clone.to.0 x-in, b, branch-is c ns es e.to.0 y-in, y, ← v.answer); stands = tt }

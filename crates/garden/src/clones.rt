@@ -5,14 +5,14 @@ ghost use Rattle.rows.specs.Rows.{edge_of};
 ghost use Rattle.rows.specs.Code.{row_at, written};
 ghost use Rattle.tree.specs.Code.{grown_of, Stands, Meets};
 ghost use Rattle.garden.specs.Garden.{clone_branches};
-ghost use Rattle.garden.specs.Code.{NextAt, cloning_of, frame_is, bounds_of, Staged, stage_of, Turns, turns_left, CanBegin, Begins, AfterRow};
+ghost use Rattle.garden.specs.Code.{NextAt, cloning_of, frame_is, bounds_of, Staged, stage_of, Turns, turns_left, Begins, AfterRow};
 
 use crate::{copy, row};
 
 // A clone that has begun: how many rows stood then, and how many of the node's own are taken up.
 #[derive(Clone, Copy)]
 pub struct Frame {
-    pub clone: rows::Edge,
+    pub clone: row::Cloning,
     pub stood: usize,
     pub place: usize,
 }
@@ -25,82 +25,76 @@ pub struct Stage {
     pub left: usize,
 }
 
-#[derive(Clone, Copy)]
-pub enum Turned {
-    On(Stage),
-    Refused(tree::Fault),
-}
-
-// A frame has the words of an edge row: how many rows stood where the kind is, how many are taken up where the symbol is.
+// Frames lie in a slice of words that the caller lends, as the C interface has it. A frame has the words of an edge row: how many rows stood
+// where the kind is, how many are taken up where the symbol is.
 fn write_frame(frames: &mut [u32], at: usize, f: Frame)
-    requires { (at < length frames.old / row_width) × (f.clone.count ≤ most_reduces) × (f.stood ≤ most_edges) × (f.place ≤ most_edges) }
+    requires { (at < length frames.old / row_width) × (f.stood ≤ most_edges) × (f.place ≤ most_edges) }
     ensures { frames.new ≡ written frames.old at (frame_is f) }
 {
-    let mut e = f.clone;
-    let place = words::SymbolNo(f.place as u32);
-    e.kind = f.stood as u32;
-    e.symbol = place;
+    let key = rows::Key {
+        from: f.clone.from,
+        kind: f.stood as u32,
+        symbol: words::SymbolNo(f.place as u32),
+    };
+    let e = rows::Edge {
+        key,
+        to: f.clone.to,
+        reduces: f.clone.stored,
+    };
     rows::write_edge(frames, at, e);
 }
 
 fn read_frame(frames: &[u32], at: usize) -> Frame
     requires { (at < length frames.now / row_width) × (length (edge_of (row_at frames.now at)).reduces ≤ most_reduces) }
-    ensures { (frame_is result ≡ edge_of (row_at frames.now at)) × (result.clone.count ≤ most_reduces) }
+    ensures { frame_is result ≡ edge_of (row_at frames.now at) }
 {
     let e = rows::read_row(frames, at);
+    let clone = row::Cloning {
+        from: e.key.from,
+        to: e.to,
+        stored: e.reduces,
+    };
     Frame {
-        clone: e,
-        stood: e.kind as usize,
-        place: e.symbol.0 as usize,
+        clone,
+        stood: e.key.kind as usize,
+        place: e.key.symbol.0 as usize,
     }
 }
 
 // A clone begins, over the rows that stand now: 6 where there is no frame for it.
-fn begin(s: Stage, clone: rows::Edge, frames: &mut [u32]) -> Turned
-    requires { (clone.count ≤ most_reduces) × (s.counts.edges ≤ most_edges) }
+fn begin(s: Stage, clone: row::Cloning, frames: &mut [u32]) -> Result<Stage, tree::Fault>
+    requires { s.counts.edges ≤ most_edges }
     ensures { Begins s clone result frames.old frames.new }
 {
     let depth = s.depth;
     if frames.len() / words::ROW_WIDTH <= depth {
-        return Turned::Refused(tree::Fault::NoClone);
+        return Err(tree::Fault::NoClone);
     }
-    let counts = s.counts;
-    write_frame(
-        frames,
-        depth,
-        Frame {
-            clone,
-            stood: counts.edges,
-            place: 0,
-        },
-    );
-    Turned::On(Stage {
-        counts,
+    let frame = Frame {
+        clone,
+        stood: s.counts.edges,
+        place: 0,
+    };
+    write_frame(frames, depth, frame);
+    Ok(Stage {
         depth: depth + 1,
-        left: s.left,
+        ..s
     })
 }
 
 // After a row: the clone that it leads to begins.
-fn after_row(s: Stage, taken: row::Taken, frames: &mut [u32]) -> Turned
-    requires { (0 < s.left) × CanBegin taken.grew taken.next }
-    ensures { AfterRow s taken.grew taken.begins taken.next result frames.old frames.new }
+fn after_row(s: Stage, taken: row::Taken, frames: &mut [u32]) -> Result<Stage, tree::Fault>
+    requires { (0 < s.left) × (taken.counts.edges ≤ most_edges) }
+    ensures { AfterRow s taken result frames.old frames.new }
 {
-    let grew = taken.grew;
-    match grew {
-        tree::Grew::On(counts) => {
-            let next = Stage {
-                counts,
-                depth: s.depth,
-                left: s.left - 1,
-            };
-            if !taken.begins {
-                return Turned::On(next);
-            }
-            let clone = taken.next;
-            begin(next, clone, frames)
-        }
-        tree::Grew::Refused(f) => Turned::Refused(f),
+    let next = Stage {
+        counts: taken.counts,
+        left: s.left - 1,
+        ..s
+    };
+    match taken.next {
+        Some(clone) => begin(next, clone, frames),
+        None => Ok(next),
     }
 }
 
@@ -114,28 +108,24 @@ fn take_row(
     nodes: &mut [u32],
     edges: &mut [u32],
     frames: &mut [u32],
-) -> Turned
-    requires { Staged room t.0 s nodes.old edges.old frames.old × (0 < s.depth) × (frame_is f ≡ edge_of (row_at frames.old (s.depth - 1))) × (f.clone.count ≤ most_reduces)
+) -> Result<Stage, tree::Fault>
+    requires { Staged room t.0 s nodes.old edges.old frames.old × (0 < s.depth) × (frame_is f ≡ edge_of (row_at frames.old (s.depth - 1)))
         × NextAt s.counts f.clone.from.0 f.stood f.place edges.old at }
     ensures { Turns room (bounds_of room (length frames.old)) t.0 (turns_left s) (stage_of (bounds_of room (length frames.old)) t.0 s nodes.old edges.old frames.old) result nodes.new edges.new frames.new }
 {
     if s.left == 0 {
-        return Turned::Refused(tree::Fault::ManyRows);
+        return Err(tree::Fault::ManyRows);
     }
-    let stood = f.stood;
-    let clone = f.clone;
     write_frame(
         frames,
         s.depth - 1,
         Frame {
-            clone,
-            stood,
             place: f.place + 1,
+            ..f
         },
     );
     let e = rows::read_row(edges, at);
-    let c = s.counts;
-    let taken = row::take_up(room, c, t, clone, e, nodes, edges);
+    let taken = row::take_up(room, s.counts, t, f.clone, e, nodes, edges)?;
     after_row(s, taken, frames)
 }
 
@@ -147,21 +137,16 @@ fn turn(
     nodes: &mut [u32],
     edges: &mut [u32],
     frames: &mut [u32],
-) -> Turned
+) -> Result<Stage, tree::Fault>
     requires { Staged room t.0 s nodes.old edges.old frames.old × (0 < s.depth) }
     ensures { Turns room (bounds_of room (length frames.old)) t.0 (turns_left s) (stage_of (bounds_of room (length frames.old)) t.0 s nodes.old edges.old frames.old) result nodes.new edges.new frames.new }
 {
     let top = s.depth - 1;
     let f = read_frame(frames, top);
-    let clone = f.clone;
-    let from = clone.from;
     let counts = s.counts;
-    let rows::Found::Row(at) = copy::next_row(counts, from, f.stood, f.place, edges) else {
-        return Turned::On(Stage {
-            counts,
-            depth: top,
-            left: s.left,
-        });
+    let from = f.clone.from;
+    let Some(at) = copy::next_row(counts, from, f.stood, f.place, edges) else {
+        return Ok(Stage { depth: top, ..s });
     };
     take_row(room, t, s, f, at, nodes, edges, frames)
 }
@@ -174,24 +159,15 @@ fn run(
     nodes: &mut [u32],
     edges: &mut [u32],
     frames: &mut [u32],
-) -> tree::Grew
+) -> Result<tree::Counts, tree::Fault>
     requires { Staged room t.0 start nodes.old edges.old frames.old }
     ensures { Meets room (stage_of (bounds_of room (length frames.old)) t.0 start nodes.old edges.old frames.old) result nodes.new edges.new }
 {
     let mut s = start;
     while 0 < s.depth {
-        let turned = turn(room, t, s, nodes, edges, frames);
-        match turned {
-            Turned::On(next) => {
-                s = next;
-            }
-            Turned::Refused(f) => {
-                return tree::Grew::Refused(f);
-            }
-        }
+        s = turn(room, t, s, nodes, edges, frames)?;
     }
-    let c = s.counts;
-    tree::Grew::On(c)
+    Ok(s.counts)
 }
 
 // A node is cloned to another; `t` is the shadow's node.
@@ -199,12 +175,12 @@ pub fn clone_branches(
     room: tree::Room,
     c: tree::Counts,
     t: words::NodeNo,
-    clone: rows::Edge,
+    clone: row::Cloning,
     nodes: &mut [u32],
     edges: &mut [u32],
     frames: &mut [u32],
-) -> tree::Grew
-    requires { Stands room c nodes.old edges.old × (room.edges ≤ most_edges) × (t.0 < c.nodes) × (clone.to.0 < c.nodes) × (clone.count ≤ most_reduces) }
+) -> Result<tree::Counts, tree::Fault>
+    requires { Stands room c nodes.old edges.old × (room.edges ≤ most_edges) × (t.0 < c.nodes) × (clone.to.0 < c.nodes) }
     ensures { Meets room (clone_branches (bounds_of room (length frames.old)) t.0 (cloning_of clone) (grown_of c nodes.old edges.old))
         result nodes.new edges.new }
 {
@@ -213,9 +189,6 @@ pub fn clone_branches(
         depth: 0,
         left: words::MOST_TAKEN,
     };
-    let begun = begin(first, clone, frames);
-    match begun {
-        Turned::On(s) => run(room, t, s, nodes, edges, frames),
-        Turned::Refused(f) => tree::Grew::Refused(f),
-    }
+    let s = begin(first, clone, frames)?;
+    run(room, t, s, nodes, edges, frames)
 }

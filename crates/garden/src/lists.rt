@@ -1,199 +1,119 @@
-// Lists of reduces, each carried as the reduces of an edge, whose key and ends stay.
-ghost use Rattle.std.specs.Prelude.{◌≡◌, [], ◌∷◌, ◌≤◌, drop};
-ghost use Rattle.words.specs.Limits.{most_reduces};
-ghost use Rattle.words.specs.Numbers.{far_offset, sixth_reduce, bad_copy};
-ghost use Rattle.rows.specs.Code.{reduce_is, edge_is};
+// Lists of reduces.
+ghost use Rattle.std.specs.Prelude.{◌≡◌, [], ◌∷◌, map};
+ghost use Rattle.rows.specs.Code.{reduce_is, reduces_are, edge_is};
 ghost use Rattle.garden.specs.Garden.{increment_offsets, raised_on, extend, diff_extend, same_reduces, store_other, leaf_reduces};
-ghost use Rattle.garden.specs.Code.{has_rule, Lists, Carries};
+ghost use Rattle.garden.specs.Code.{list_of, has_rule};
 
-// A list, or why there is none.
-#[derive(Clone, Copy)]
-pub struct Listed {
-    pub ok: bool,
-    pub why: tree::Fault,
-    pub edge: rows::Edge,
-}
+use rows::{Reduce, Reduces};
+use tree::Fault;
 
 // Every offset raised by one; refused (15) where one is 255.
-fn increment_offsets(e: rows::Edge) -> rows::Added
-    requires { e.count ≤ most_reduces }
-    ensures { Lists far_offset (increment_offsets (edge_is e).reduces) e result }
+fn increment_offsets(list: Reduces) -> Result<Reduces, Fault>
+    ensures { list_of result ≡ increment_offsets (reduces_are list) }
 {
-    let n = e.count as usize;
-    let mut out = e;
-    let mut k: usize = 0;
-    while k < n {
-        let mut d = out.reduces[k];
+    let count = list.count;
+    let mut items = list.items;
+    for k in 0..count as usize {
+        let d = items[k];
         if words::MOST_OFFSET <= d.offset {
-            return rows::Added { ok: false, edge: e };
+            return Err(Fault::FarOffset);
         }
-        d.offset = d.offset + 1;
-        out.reduces[k] = d;
-        k += 1;
+        items[k] = Reduce {
+            offset: d.offset + 1,
+            ..d
+        };
     }
-    rows::Added {
-        ok: true,
-        edge: out,
-    }
+    Ok(Reduces { count, items })
 }
 
 // As it is before a constant, raised by one before a variable.
-pub fn raised_on(kind: u32, e: rows::Edge) -> rows::Added
-    requires { e.count ≤ most_reduces }
-    ensures { Lists far_offset (raised_on kind (edge_is e).reduces) e result }
+pub fn raised_on(kind: u32, list: Reduces) -> Result<Reduces, Fault>
+    ensures { list_of result ≡ raised_on kind (reduces_are list) }
 {
     if kind == 0 {
-        return rows::Added { ok: true, edge: e };
+        return Ok(list);
     }
-    increment_offsets(e)
+    increment_offsets(list)
 }
 
 // A reduce behind the others; a sixth is refused (14).
-pub fn push(e: rows::Edge, r: rows::Reduce) -> rows::Added
-    requires { e.count ≤ most_reduces }
-    ensures { Lists sixth_reduce (extend (edge_is e).reduces (reduce_is r ∷ [])) e result }
+pub fn push(list: Reduces, r: Reduce) -> Result<Reduces, Fault>
+    ensures { list_of result ≡ extend (reduces_are list) (reduce_is r ∷ []) }
 {
-    let n = e.count;
-    if words::MOST_REDUCES <= n {
-        return rows::Added { ok: false, edge: e };
+    let count = list.count;
+    if words::MOST_REDUCES <= count {
+        return Err(Fault::SixthReduce);
     }
-    let mut out = e;
-    out.reduces[n as usize] = r;
-    out.count = n + 1;
-    rows::Added {
-        ok: true,
-        edge: out,
-    }
+    let mut items = list.items;
+    items[count as usize] = r;
+    Ok(Reduces {
+        count: count + 1,
+        items,
+    })
 }
 
-// The reduces of another edge behind its own.
-pub fn extend(e: rows::Edge, more: rows::Edge) -> rows::Added
-    requires { (e.count ≤ most_reduces) × (more.count ≤ most_reduces) }
-    ensures { Lists sixth_reduce (extend (edge_is e).reduces (edge_is more).reduces) e result }
+// Another list behind the first.
+pub fn extend(list: Reduces, more: Reduces) -> Result<Reduces, Fault>
+    ensures { list_of result ≡ extend (reduces_are list) (reduces_are more) }
 {
-    let n = more.count as usize;
-    let mut out = e;
-    let mut k: usize = 0;
-    while k < n {
-        let d = more.reduces[k];
-        let added = push(out, d);
-        if !added.ok {
-            return rows::Added { ok: false, edge: e };
-        }
-        out = added.edge;
-        k += 1;
+    let mut out = list;
+    for d in more.as_slice() {
+        out = push(out, *d)?;
     }
-    rows::Added {
-        ok: true,
-        edge: out,
-    }
+    Ok(out)
 }
 
-// Whether the edge has a reduce of this rule at place `k`.
-fn has_rule(e: rows::Edge, k: usize, rule: words::RuleNo) -> bool
-    requires { e.count ≤ most_reduces }
-    ensures { result ≡ has_rule rule.0 (drop k (edge_is e).reduces) }
+// Whether the first of these is of this rule.
+fn has_rule(list: &[Reduce], rule: words::RuleNo) -> bool
+    ensures { result ≡ has_rule rule.0 (map reduce_is list.now) }
 {
-    if (e.count as usize) <= k {
-        return false;
+    match list {
+        [first, ..] => first.rule == rule,
+        [] => false,
     }
-    let d = e.reduces[k];
-    d.rule.0 == rule.0
 }
 
 // Those reduces of `f` that `e` lacks, by their rules; refused (16) where some of `e` are left over.
-pub fn diff_extend(f: rows::Edge, e: rows::Edge) -> rows::Added
-    requires { (f.count ≤ most_reduces) × (e.count ≤ most_reduces) }
-    ensures { Lists bad_copy (diff_extend (edge_is f).reduces (edge_is e).reduces) f result }
+pub fn diff_extend(f: Reduces, e: Reduces) -> Result<Reduces, Fault>
+    ensures { list_of result ≡ diff_extend (reduces_are f) (reduces_are e) }
 {
-    let n = f.count as usize;
-    let mut out = f;
-    out.count = 0;
-    let mut j: usize = 0;
-    let mut k: usize = 0;
-    while k < n {
-        let d = f.reduces[k];
-        let rule = d.rule;
-        if has_rule(e, j, rule) {
-            j += 1;
+    let mut out = Reduces::none();
+    let mut left = e.as_slice();
+    for d in f.as_slice() {
+        if has_rule(left, d.rule) {
+            left = &left[1..];
         } else {
-            let added = push(out, d);
-            out = added.edge;
+            out = push(out, *d)?;
         }
-        k += 1;
     }
-    rows::Added {
-        ok: j == (e.count as usize),
-        edge: out,
+    if !left.is_empty() {
+        return Err(Fault::BadCopy);
     }
+    Ok(out)
 }
 
-// Whether two edges have the same reduces.
-pub fn same_reduces(a: rows::Edge, b: rows::Edge) -> bool
-    requires { (a.count ≤ most_reduces) × (b.count ≤ most_reduces) }
-    ensures { result ≡ same_reduces (edge_is a).reduces (edge_is b).reduces }
+// Whether two lists have the same reduces.
+pub fn same_reduces(a: Reduces, b: Reduces) -> bool
+    ensures { result ≡ same_reduces (reduces_are a) (reduces_are b) }
 {
-    if a.count != b.count {
-        return false;
-    }
-    let n = a.count as usize;
-    let mut k: usize = 0;
-    while k < n {
-        let c = a.reduces[k];
-        let d = b.reduces[k];
-        if c.rule.0 != d.rule.0 {
-            return false;
-        }
-        if c.offset != d.offset {
-            return false;
-        }
-        k += 1;
-    }
-    true
+    a.as_slice() == b.as_slice()
 }
 
 // The reduces of `e` behind the stored ones, where `d` has others: 14.
-pub fn store_other(stored: rows::Edge, e: rows::Edge, d: rows::Edge) -> rows::Added
-    requires { (stored.count ≤ most_reduces) × (e.count ≤ most_reduces) × (d.count ≤ most_reduces) }
-    ensures { Lists sixth_reduce (store_other (edge_is stored).reduces (edge_is e) (edge_is d)) stored result }
+pub fn store_other(stored: Reduces, e: rows::Edge, d: rows::Edge) -> Result<Reduces, Fault>
+    ensures { list_of result ≡ store_other (reduces_are stored) (edge_is e) (edge_is d) }
 {
-    if same_reduces(e, d) {
-        return rows::Added {
-            ok: true,
-            edge: stored,
-        };
+    if same_reduces(e.reduces, d.reduces) {
+        return Ok(stored);
     }
-    extend(stored, e)
+    extend(stored, e.reduces)
 }
 
 // What a row that leads to the leaf of this rule carries: its own reduces, the stored ones and the rule. 15, then 14.
-pub fn leaf_reduces(e: rows::Edge, stored: rows::Edge, rule: words::RuleNo) -> Listed
-    requires { (e.count ≤ most_reduces) × (stored.count ≤ most_reduces) }
-    ensures { Carries (leaf_reduces rule.0 (edge_is e) (edge_is stored).reduces) e result }
+pub fn leaf_reduces(e: rows::Edge, stored: Reduces, rule: words::RuleNo) -> Result<Reduces, Fault>
+    ensures { list_of result ≡ leaf_reduces rule.0 (edge_is e) (reduces_are stored) }
 {
-    let raised = raised_on(e.kind, stored);
-    if !raised.ok {
-        return Listed {
-            ok: false,
-            why: tree::Fault::FarOffset,
-            edge: e,
-        };
-    }
-    let stored = raised.edge;
-    let own = extend(e, stored);
-    if !own.ok {
-        return Listed {
-            ok: false,
-            why: tree::Fault::SixthReduce,
-            edge: e,
-        };
-    }
-    let row = own.edge;
-    let added = push(row, rows::Reduce { rule, offset: 0 });
-    let edge = added.edge;
-    Listed {
-        ok: added.ok,
-        why: tree::Fault::SixthReduce,
-        edge,
-    }
+    let raised = raised_on(e.key.kind, stored)?;
+    let own = extend(e.reduces, raised)?;
+    push(own, Reduce { rule, offset: 0 })
 }

@@ -1,6 +1,10 @@
 pub mod Theorems
 pub mod Numbers
+pub mod Pasting
+pub mod Ranks
 pub mod Heads
 pub mod Reading
 pub mod Renewing
+pub mod Settling
 pub mod Writing
+pub mod Weighing

@@ -1,56 +1,25 @@
 -- What reading puts into the slices, and what the records read so far say.
-use Prim.Native.Nat.{ℕ, zero, suc, ◌+◌, ◌*◌, ◌-◌, ◌≤◌, ◌<◌, ◌/◌, ◌^◌}
-use mathlib.Core.Path.{◌≡◌, refl, sym, ap, ◌∙◌}
-use mathlib.Core.Bool.{Bool, true, false, not}
-use mathlib.Core.List.{List, [], ◌∷◌, ◌++◌}
-use native.Mathlib.Numerals.{add-one}
-use native.Mathlib.Nat.{le_antisymm, sub-zero}
-use native.Mathlib.Omega.{arith}
-use borrow.Author.Tests.{lt-ltb, le-ltb, eq-eqb, ne_eqb}
-use mathlib.Core.Logic.{◌≢◌}
-use lib.ListN.{length, get_or, take, drop, set, length-append, length-take, length-drop}
-use lib.Seq.{take-suc-set, paste, paste-suc, take-paste, take_all, drop-drop}
-use lib.Dec.{ltb, eqb}
-use Rattle.words.specs.Lent.{zeros, padded, cleared_from}
+use Rattle.std.proofs.Common.{◌≡◌, ◌≢◌, ℕ, zero, suc, ◌+◌, ◌-◌, ◌/◌, ◌^◌, ◌≤◌, ◌<◌, refl, sym, ap, ◌∙◌, true, List, [], ◌∷◌, ◌++◌, eqb, arith, add-one, length, get_or, take, drop, length-append, length-take, length-drop, drop-drop, eq-eqb, ne_eqb, true≢false, Result, Ok, Err, MatchResult, is_ok}
+use Rattle.words.specs.Code.{code}
+use Rattle.words.specs.declared.Refusal as why
 use Rattle.words.specs.Counted.{counted}
-use Rattle.words.specs.Numbers.{accepted, no_room, bad_rules, wrong_order}
-use Rattle.words.specs.Outcome.{Res, ok, no, pick, Demand, demand, first_fault}
-use Rattle.words.proofs.Theorems.Faults.{met, unmet}
+use Rattle.words.specs.Numbers.{wrong_order}
+use Rattle.words.specs.declared.Refusal.TheVariants.{WrongOrder}
+use Rattle.words.specs.Outcome.{Res, ok, no, pick, Demand, first_fault}
 use Rattle.words.proofs.Theorems.Parts.{part-all}
-use Rattle.rules.specs.Rules.{rules_good}
 use Rattle.package.specs.Bytes.{little, words_of}
-use Rattle.package.specs.Package.{Package, Read, typecodes, one_rule, old_rule, statement, the_end, nothing, record_size, kind_of, body_of, sized, record_demands, Refusal, refusal, renewed, put_words, ended, scan, says, not_read, read_demands, read_after, read_by, read_gives}
-use Rattle.package.specs.Code.{found_in, Holds, Put, refused_is, Stands, Takes, Small, Scanned, read_is, Settled}
-use Rattle.package.specs.declared.Package as code
-use Rattle.package.specs.declared.Found.TheVariants.{Record, Refused}
+use Rattle.package.specs.Package.{Package, typecodes, one_rule, old_rule, statement, the_end, nothing, record_size, kind_of, body_of, sized, record_demands, Refusal, refusal, renewed, put_words, ended, scan, says}
+use Rattle.package.specs.Code.{kind_number, FoundIn, Holds, Put, Stands, Takes, Small, Scanned}
+use Rattle.package.specs.declared.reader.Record.{Record}
+use Rattle.package.specs.declared.scan.Contents.{Contents}
+use Rattle.words.specs.declared.Refused.{Refused}
 use Rattle.package.proofs.Theorems.Bytes.{words-length, word_small}
 use Rattle.package.proofs.Theorems.Records.{faultless, scan-record, scan-refused, ended-more}
 use Rattle.package.proofs.Theorems.Few.{Few, few-more, counted-last}
 use Rattle.package.proofs.Numbers.{word_at, items_at}
-use Rattle.package.proofs.Heads.{found-record, found-refused}
+use Rattle.package.proofs.Ranks.{refused-some}
 
 -- ---- words put into a slice
-
-pub put_one : (s : List ℕ) (at x : ℕ) → at < length s → Put s at (x ∷ []) (set s at x)
-put_one s at x h k = rw (add-one at) (take-suc-set s at x h)
-
--- a turn that stores word i
-pub words_more : (d : List ℕ) (at : ℕ) (bs : List ℕ) (i : ℕ) (d' : List ℕ) (x : ℕ) → d' ≡ paste d at (words_of bs) i
-    → x ≡ little (take 4 (take (length bs - 4 * i) (drop (4 * i) bs))) → i < length bs / 4 → at + length bs / 4 ≤ length d
-    → set d' (at + i) x ≡ paste d at (words_of bs) (i + 1)
-words_more d at bs i d' x e w h room =
-    let v : x ≡ get_or (words_of bs) i 0 =
-    w ∙ ap (λ (l : List ℕ). little (take 4 l)) (part-all bs (4 * i)) ∙ sym (word_at (length bs / 4) i bs h) in
-    rw (e, v, add-one i) (paste-suc d at (words_of bs) i 0 (omega arith) (omega (arith, words-length bs)))
-
--- the end of that loop
-pub words-put : (d : List ℕ) (at : ℕ) (bs : List ℕ) (i : ℕ) (d' : List ℕ) → d' ≡ paste d at (words_of bs) i
-    → i ≤ length bs / 4 → length bs / 4 ≤ i → at + length bs / 4 ≤ length d → Put d at (words_of bs) d'
-words-put d at bs i d' e h k room l =
-    let n = words-length bs in
-    let q : i ≡ length (words_of bs) = le_antisymm h k ∙ sym n in
-    rw (e, q) (take-paste d at (words_of bs) (length (words_of bs)) (omega arith) (omega arith)
-    ∙ ap (λ (r : List ℕ). take at d ++ r) (take_all (length (words_of bs)) (words_of bs) (omega arith)))
 
 -- what stood at the front, and words put behind it
 pub put_holds : (s s' ws vs : List ℕ) (at : ℕ) → at ≡ length ws → length s' ≡ length s → Holds s ws → Put s at vs s' → Holds s' (ws ++ vs)
@@ -61,15 +30,13 @@ put_holds s s' ws vs at e l h p r =
 
 -- ---- a record's words put to what was read before it
 
-pub stands-typecodes : (p : code.Package) (q : Package) (rs ss body : List ℕ) (a b : ℕ) → length body ≡ 8 → a ≡ little (take 4 body)
+pub stands-typecodes : (p : Contents) (q : Package) (rs ss body : List ℕ) (a b : ℕ) → length body ≡ 8 → a ≡ little (take 4 body)
     → b ≡ little (take 4 (take (length body - 4) (drop 4 body))) → Stands p q rs ss
     → Stands
-    (record { number = 0; place = 0; provable = a; logic = b; rules = p.rules; statements = p.statements; words = p.words })
+    (record { codes = record { provable = record { 0 = a }; logic = record { 0 = b } }; rules = p.rules; statements = p.statements; words = p.words })
     (put_words q typecodes (words_of body)) rs ss
 unfolding put_words
 stands-typecodes p q rs ss body a b l ea eb s = record {
-  number = refl;
-  place = refl;
   provable = ea ∙ sym (word_at (length body / 4) 0 body (omega arith));
   logic = eb ∙ ap (λ (l : List ℕ). little (take 4 l)) (part-all body 4) ∙ sym (items_at body (omega arith));
   rules = s.rules;
@@ -80,14 +47,12 @@ stands-typecodes p q rs ss body a b l ea eb s = record {
 }
 
 -- a rule's words, up to n
-stands-words : (p : code.Package) (q : Package) (rs ss rs' ws : List ℕ) (n : ℕ) → length rs' ≡ length rs → Put rs p.rules ws rs' → n ≡ p.rules + length ws
+stands-words : (p : Contents) (q : Package) (rs ss rs' ws : List ℕ) (n : ℕ) → length rs' ≡ length rs → Put rs p.rules ws rs' → n ≡ p.rules + length ws
     → Stands p q rs ss
     → Stands
-    (record { number = 0; place = 0; provable = p.provable; logic = p.logic; rules = n; statements = p.statements; words = p.words })
+    (record { codes = p.codes; rules = n; statements = p.statements; words = p.words })
     (record { provable = q.provable; logic = q.logic; rules = q.rules ++ ws; statements = q.statements }) rs' ss
 stands-words p q rs ss rs' ws n l put e s = record {
-  number = refl;
-  place = refl;
   provable = s.provable;
   logic = s.logic;
   rules = omega (arith, s.rules, length-append q.rules ws);
@@ -97,27 +62,27 @@ stands-words p q rs ss rs' ws n l put e s = record {
   statement-words = s.statement-words;
 }
 
-pub stands-rule : (p : code.Package) (q : Package) (rs ss rs' body : List ℕ) → length rs' ≡ length rs → Put rs p.rules (words_of body) rs'
+pub stands-rule : (p : Contents) (q : Package) (rs ss rs' body : List ℕ) → length rs' ≡ length rs → Put rs p.rules (words_of body) rs'
     → Stands p q rs ss
     → Stands
-    (record { number = 0; place = 0; provable = p.provable; logic = p.logic; rules = p.rules + length body / 4; statements = p.statements; words = p.words })
+    (record { codes = p.codes; rules = p.rules + length body / 4; statements = p.statements; words = p.words })
     (put_words q one_rule (words_of body)) rs' ss
 unfolding put_words
 stands-rule p q rs ss rs' body l put s = stands-words p q rs ss rs' (words_of body) (p.rules + length body / 4) l put (omega (arith, words-length body)) s
 
-pub stands-old-rule : (p : code.Package) (q : Package) (rs ss rs' body : List ℕ) (n : ℕ) → length rs' ≡ length rs
+pub stands-old-rule : (p : Contents) (q : Package) (rs ss rs' body : List ℕ) (n : ℕ) → length rs' ≡ length rs
     → Put rs p.rules (renewed (words_of body)) rs' × (n ≡ p.rules + length (renewed (words_of body))) → Stands p q rs ss
     → Stands
-    (record { number = 0; place = 0; provable = p.provable; logic = p.logic; rules = n; statements = p.statements; words = p.words })
+    (record { codes = p.codes; rules = n; statements = p.statements; words = p.words })
     (put_words q old_rule (words_of body)) rs' ss
 unfolding put_words
 stands-old-rule p q rs ss rs' body n l put s = stands-words p q rs ss rs' (renewed (words_of body)) n l put.0 put.1 s
 
 -- the slice before, with the count, and with the tokens too
-pub stands-statement : (p : code.Package) (q : Package) (rs ss ss₁ ss₂ body : List ℕ) → length ss₁ ≡ length ss → length ss₂ ≡ length ss₁
+pub stands-statement : (p : Contents) (q : Package) (rs ss ss₁ ss₂ body : List ℕ) → length ss₁ ≡ length ss → length ss₂ ≡ length ss₁
     → Put ss p.words (length body / 4 ∷ []) ss₁ → Put ss₁ (p.words + 1) (words_of body) ss₂ → Stands p q rs ss
     → Stands
-    (record { number = 0; place = 0; provable = p.provable; logic = p.logic; rules = p.rules; statements = p.statements + 1; words = p.words + 1 + length body / 4 })
+    (record { codes = p.codes; rules = p.rules; statements = p.statements + 1; words = p.words + 1 + length body / 4 })
     (put_words q statement (words_of body)) rs ss₂
 unfolding put_words
 stands-statement p q rs ss ss₁ ss₂ body l₁ l₂ put₁ put₂ s =
@@ -129,8 +94,6 @@ stands-statement p q rs ss ss₁ ss₂ body l₁ l₂ put₁ put₂ s =
     let one : Holds ss₁ (cs ++ length ws ∷ []) =
     put_holds ss ss₁ cs (length ws ∷ []) p.words s.words l₁ s.statement-words (rw n put₁) in
     record {
-      number = refl;
-      place = refl;
       provable = s.provable;
       logic = s.logic;
       rules = s.rules;
@@ -142,30 +105,47 @@ stands-statement p q rs ss ss₁ ss₂ body l₁ l₂ put₁ put₂ s =
 
 -- ---- the records one after another
 
--- what a record that is found teaches; `bs` starts with it
-pub record Next (bs : List ℕ) (last kind size : ℕ) : Type 0 where
-  pub faultless : first_fault (record_demands last bs) ≡ 0
-  pub kind-is : kind_of bs ≡ kind
-  pub size_is : record_size bs ≡ size
-  pub head : 6 ≤ size
-  pub inside : size ≤ length bs
-  pub body-sized : sized kind (body_of bs) ≡ true
+-- what is found, with the place of a refusal
+pub found_ok : (ds : List Demand) (bs : List ℕ) (r : Result Record why.Refusal) (m : Result Record Refused) (x : Record) (Q : why.Refusal → Type 0) → FoundIn ds bs r
+    → m ≡ Ok x → MatchResult r (λ y. m ≡ Ok y) Q → is_ok m ≡ is_ok r → FoundIn ds bs (Ok x)
+found_ok ds bs (Ok y) m x Q f e g v = let z : x ≡ y = cc in rw z f
+found_ok ds bs (Err d) m x Q f e g v = absurd (true≢false (ap is_ok (sym e) ∙ v))
 
-pub found-next : (bs : List ℕ) (last kind size : ℕ) → found_in (record_demands last bs) bs ≡ Record kind size → Next bs last kind size
-found-next bs last kind size e =
-    let h = found-record bs (first_fault (record_demands last bs)) kind size e in
-    let f = faultless last bs h.faultless in
+pub found_err : (ds : List Demand) (bs : List ℕ) (r : Result Record why.Refusal) (y : Refused) (k : ℕ) (P : Record → Type 0) (Q : why.Refusal → Type 0) → FoundIn ds bs r
+    → MatchResult r P Q → is_ok {T = Record} (Err y) ≡ is_ok r → ((e : why.Refusal) → Q e → y ≡ record { why = e; place = k })
+    → (code y.why ≡ first_fault ds) × (y.place ≡ k)
+found_err ds bs (Ok x) y k P Q f g v w = absurd (true≢false (sym v))
+found_err ds bs (Err d) y k P Q f g v w = rw (w d g) (f, refl)
+
+-- what a record that is found at `at` teaches
+pub record Next (bs : List ℕ) (at last kind size : ℕ) : Type 0 where
+  pub faultless : first_fault (record_demands last (drop at bs)) ≡ 0
+  pub kind-is : kind_of (drop at bs) ≡ kind
+  pub size_is : record_size (drop at bs) ≡ size
+  pub head : 6 ≤ size
+  pub end : at + size ≤ length bs
+  pub body : take (at + size - (at + 6)) (drop (at + 6) bs) ≡ body_of (drop at bs)
+  pub body-sized : sized kind (body_of (drop at bs)) ≡ true
+
+pub found-next : (bs bs' : List ℕ) (at last : ℕ) (r : Record) → bs' ≡ bs → FoundIn (record_demands last (drop at bs')) (drop at bs') (Ok r)
+    → Next bs at last (kind_number r.kind) r.size
+found-next bs bs' at last r same found =
+    let e : FoundIn (record_demands last (drop at bs)) (drop at bs) (Ok r) = rw same at found in
+    let f = faultless last (drop at bs) e.0 in
+    let h : 6 ≤ r.size = omega (arith, f.fits.head, e.2) in
+    let m : at + r.size - (at + 6) ≡ r.size - 6 = omega arith in
     record {
-      faultless = h.faultless;
-      kind-is = h.kind-is;
-      size_is = h.size_is;
-      head = omega (arith, f.fits.head, h.size_is);
-      inside = omega (arith, f.fits.inside, h.size_is);
-      body-sized = rw (← h.kind-is) f.body-sized;
+      faultless = e.0;
+      kind-is = sym e.1;
+      size_is = sym e.2;
+      head = h;
+      end = omega (arith, f.fits.inside, e.2, h, length-drop at bs);
+      body = rw (m, ← (drop-drop 6 at bs), e.2) refl;
+      body-sized = rw e.1 f.body-sized;
     }
 
 -- k records are read, up to `at`, the last of the kind `last`; at most f are left
-pub record Underway (bs : List ℕ) (p : code.Package) (at last k : ℕ) (rs ss : List ℕ) : Type 0 where
+pub record Underway (bs : List ℕ) (p : Contents) (at last k : ℕ) (rs ss : List ℕ) : Type 0 where
   pub f : ℕ
   pub q : Package
   pub stands : Stands p q rs ss
@@ -175,14 +155,15 @@ pub record Underway (bs : List ℕ) (p : code.Package) (at last k : ℕ) (rs ss 
   pub records : k ≤ at
   pub few : Few q at
 
-pub underway : (bs : List ℕ) (p : code.Package) (rs ss : List ℕ) → p ≡ refused_is 0 0 → Underway bs p 0 0 0 rs ss
+abbrev pub none_read : Contents
+none_read = record { codes = record { provable = record { 0 = 0 }; logic = record { 0 = 0 } }; rules = 0; statements = 0; words = 0 }
+
+pub underway : (bs rs ss : List ℕ) → Underway bs none_read 0 0 0 rs ss
 unfolding says counted
-underway bs p rs ss e = rw e (record {
+underway bs rs ss = record {
   f = length bs;
   q = nothing;
   stands = record {
-    number = refl;
-    place = refl;
     provable = refl;
     logic = refl;
     rules = refl;
@@ -196,61 +177,45 @@ underway bs p rs ss e = rw e (record {
   inside = omega arith;
   records = omega arith;
   few = record { rules = omega arith; statements = omega arith; words = omega arith };
-})
+}
 
 -- before the end the records that are left decide
-goes_on : (bs : List ℕ) (p : code.Package) (at last k : ℕ) (rs ss : List ℕ) → (u : Underway bs p at last k rs ss) → last ≢ the_end
+goes_on : (bs : List ℕ) (p : Contents) (at last k : ℕ) (rs ss : List ℕ) → (u : Underway bs p at last k rs ss) → last ≢ the_end
     → scan u.f k last u.q (drop at bs) ≡ says bs
 goes_on bs p at last k rs ss u z = rw (ne_eqb last the_end z) at u.goes
 
-pub underway-refused : (bs : List ℕ) (p : code.Package) (at last k : ℕ) (rs ss : List ℕ) (n : ℕ) (r : code.Package)
-    → Underway bs p at last k rs ss → last ≢ the_end → found_in (record_demands last (drop at bs)) (drop at bs) ≡ Refused n → r ≡ refused_is n k
-    → Scanned (says bs) r rs ss
-underway-refused bs p at last k rs ss n r u z e w =
-    let g = goes_on bs p at last k rs ss u z in
-    let h = found-refused (drop at bs) (first_fault (record_demands last (drop at bs))) n e in
-    let s : says bs ≡ no (refusal n k) =
-    sym g ∙ scan-refused u.f k last u.q (drop at bs) n (omega (arith, u.enough, length-drop at bs)) h.0 h.1 in
-    rw s (w, h.1)
+pub underway-refused : (bs : List ℕ) (p : Contents) (at last k : ℕ) (rs ss : List ℕ) (y : Refused)
+    → Underway bs p at last k rs ss → last ≢ the_end → (code y.why ≡ first_fault (record_demands last (drop at bs))) × (y.place ≡ k)
+    → Scanned (says bs) (Err y) rs ss
+underway-refused bs p at last k rs ss y u z e =
+    let s : says bs ≡ no (refusal (code y.why) k) =
+    sym (goes_on bs p at last k rs ss u z)
+    ∙ scan-refused u.f k last u.q (drop at bs) (code y.why) (omega (arith, u.enough, length-drop at bs)) (sym e.0) (refused-some y.why) in
+    rw s (refl, e.1)
 
--- the record ends with the bytes at the latest
-pub record Within (bs : List ℕ) (at size : ℕ) : Type 0 where
-  pub head : 6 ≤ size
-  pub end : at + size ≤ length bs
-
-pub next-within : (bs : List ℕ) (at last kind size : ℕ) → Next (drop at bs) last kind size → Within bs at size
-next-within bs at last kind size n = record { head = n.head; end = omega (arith, n.inside, n.head, length-drop at bs) }
-
-pub next-body : (bs : List ℕ) (at last kind size : ℕ) → Next (drop at bs) last kind size
-    → take (at + size - (at + 6)) (drop (at + 6) bs) ≡ body_of (drop at bs)
-next-body bs at last kind size n =
-    let m : at + size - (at + 6) ≡ size - 6 = omega arith in
-    rw (m, ← (drop-drop 6 at bs), n.size_is)
-
-scan-more : (f k last : ℕ) (q : Package) (bs : List ℕ) (kind size : ℕ) (x : Res Refusal Package) → scan f k last q bs ≡ x → 1 ≤ f → Next bs last kind size
+scan-more : (f k last : ℕ) (q : Package) (bs : List ℕ) (kind size : ℕ) (x : Res Refusal Package) → scan f k last q bs ≡ x → 1 ≤ f
+    → first_fault (record_demands last bs) ≡ 0 → kind_of bs ≡ kind → record_size bs ≡ size
     → let q' = put_words q kind (words_of (body_of bs)) in
     pick (eqb kind the_end) (ended (k + 1) q' (drop size bs)) (scan (f - 1) (k + 1) kind q' (drop size bs)) ≡ x
-scan-more zero k last q bs kind size x e h n = absurd (omega arith)
-scan-more (suc f) k last q bs kind size x e h n =
+scan-more zero k last q bs kind size x e h n i j = absurd (omega arith)
+scan-more (suc f) k last q bs kind size x e h n i j =
     let one : suc f - 1 ≡ f = omega arith in
-    rw (one, add-one k, ← n.kind-is, ← n.size_is) (scan-record f k last q bs n.faultless ∙ e)
+    rw (one, add-one k, ← i, ← j) (scan-record f k last q bs n ∙ e)
 
-pub underway-more : (bs : List ℕ) (p : code.Package) (at last k : ℕ) (rs ss : List ℕ) (kind size : ℕ) (r : code.Package) (rs' ss' : List ℕ)
-    → Underway bs p at last k rs ss → last ≢ the_end → Next (drop at bs) last kind size
+pub underway-more : (bs : List ℕ) (p : Contents) (at last k : ℕ) (rs ss : List ℕ) (kind size : ℕ) (r : Contents) (rs' ss' : List ℕ)
+    → Underway bs p at last k rs ss → last ≢ the_end → Next bs at last kind size
     → Takes p kind (take (at + size - (at + 6)) (drop (at + 6) bs)) r rs ss rs' ss' → Underway bs r (at + size) kind (k + 1) rs' ss'
 underway-more bs p at last k rs ss kind size r rs' ss' u z n t =
     let g = goes_on bs p at last k rs ss u z in
-    let b = next-body bs at last kind size n in
-    let l = length-drop at bs in
     let h = n.head in
-    let i = n.inside in
+    let i = n.end in
     record {
       f = u.f - 1;
       q = put_words u.q kind (words_of (body_of (drop at bs)));
-      stands = rw (← b) (t u.q u.stands);
-      goes = rw (← (drop-drop size at bs)) (scan-more u.f k last u.q (drop at bs) kind size (says bs) g (omega (arith, u.enough)) n);
+      stands = rw (← n.body) (t u.q u.stands);
+      goes = rw (← (drop-drop size at bs)) (scan-more u.f k last u.q (drop at bs) kind size (says bs) g (omega (arith, u.enough)) n.faultless n.kind-is n.size_is);
       enough = omega (arith, u.enough);
-      inside = omega (arith, u.inside);
+      inside = i;
       records = omega (arith, u.records);
       few = few-more u.q kind (body_of (drop at bs)) at size u.few (omega (arith, length-take (record_size (drop at bs) - 6) (drop 6 (drop at bs)), n.size_is));
     }
@@ -261,25 +226,25 @@ ended-all k q [] h = refl
 ended-all k q (b ∷ bs) h = absurd (omega arith)
 
 -- after the end record no byte may be left
-at-end : (bs : List ℕ) (p : code.Package) (at last k : ℕ) (rs ss : List ℕ) → (u : Underway bs p at last k rs ss) → last ≡ the_end
+at-end : (bs : List ℕ) (p : Contents) (at last k : ℕ) (rs ss : List ℕ) → (u : Underway bs p at last k rs ss) → last ≡ the_end
     → ended k u.q (drop at bs) ≡ says bs
 at-end bs p at last k rs ss u z = rw (eq-eqb last the_end z) at u.goes
 
-pub underway-left : (bs : List ℕ) (p : code.Package) (at last k : ℕ) (rs ss : List ℕ) (r : code.Package) → Underway bs p at last k rs ss → last ≡ the_end
-    → at < length bs → r ≡ refused_is wrong_order k → Scanned (says bs) r rs ss
-underway-left bs p at last k rs ss r u z h w =
+pub underway-left : (bs : List ℕ) (p : Contents) (at last k : ℕ) (rs ss : List ℕ) → Underway bs p at last k rs ss → last ≡ the_end
+    → at < length bs → Scanned (says bs) (Err (record { why = WrongOrder; place = k })) rs ss
+underway-left bs p at last k rs ss u z h =
     let s : says bs ≡ no (refusal wrong_order k) =
     sym (at-end bs p at last k rs ss u z) ∙ ended-more k u.q (drop at bs) (omega (arith, length-drop at bs)) in
-    rw s (w, omega arith)
+    rw s (refl, refl)
 
-pub underway-done : (bs : List ℕ) (p : code.Package) (at last k : ℕ) (rs ss : List ℕ) → Underway bs p at last k rs ss → last ≡ the_end → length bs ≤ at
-    → Scanned (says bs) p rs ss
+pub underway-done : (bs : List ℕ) (p : Contents) (at last k : ℕ) (rs ss : List ℕ) → Underway bs p at last k rs ss → last ≡ the_end → length bs ≤ at
+    → Scanned (says bs) (Ok p) rs ss
 underway-done bs p at last k rs ss u z h =
     let s : says bs ≡ ok u.q =
     sym (at-end bs p at last k rs ss u z) ∙ ended-all k u.q (drop at bs) (omega (arith, length-drop at bs)) in
     rw s u.stands
 
-pub underway-small : (bs : List ℕ) (p : code.Package) (at last k : ℕ) (rs ss : List ℕ) → Underway bs p at last k rs ss → length bs < 2 ^ 63 → Small p
+pub underway-small : (bs : List ℕ) (p : Contents) (at last k : ℕ) (rs ss : List ℕ) → Underway bs p at last k rs ss → length bs < 2 ^ 63 → Small p
 underway-small bs p at last k rs ss u h =
     let s = u.stands in
     let f = u.few in
@@ -289,139 +254,8 @@ underway-small bs p at last k rs ss u h =
       words = omega (arith, u.inside, s.words, f.words);
     }
 
-pub body-short : (bs : List ℕ) (at last kind size : ℕ) → Next (drop at bs) last kind size → ((i : ℕ) → get_or bs i 0 < 256)
+pub body-short : (bs : List ℕ) (at last kind size : ℕ) → Next bs at last kind size → ((i : ℕ) → get_or bs i 0 < 256)
     → length (take (at + size - (at + 6)) (drop (at + 6) bs)) < 2 ^ 32
 body-short bs at last kind size n b =
-    let w = word_small bs at (omega (arith, n.head, n.inside, length-drop at bs)) b in
+    let w = word_small bs at (omega (arith, n.head, n.end)) b in
     omega (arith, w, n.head, n.size_is, length-take (at + size - (at + 6)) (drop (at + 6) bs))
-
--- ---- `read`, before its slices are cleared
-
--- no record was refused
-pub record Said (bs : List ℕ) (r : code.Package) (rs ss : List ℕ) : Type 0 where
-  pub p : Package
-  pub all : says bs ≡ ok p
-  pub stands : Stands r p rs ss
-
-said-by : (bs : List ℕ) (r : code.Package) (rs ss : List ℕ) (x : Res Refusal Package) → says bs ≡ x → Scanned x r rs ss → r.number ≡ 0 → Said bs r rs ss
-said-by bs r rs ss (ok p) e s z = record { p = p; all = e; stands = s }
-said-by bs r rs ss (no y) e s z = absurd (omega (arith, ap (λ (p : code.Package). p.number) s.0, s.1))
-
-pub said : (bs : List ℕ) (r : code.Package) (rs ss : List ℕ) → Scanned (says bs) r rs ss → r.number ≡ 0 → Said bs r rs ss
-said bs r rs ss s z = said-by bs r rs ss (says bs) refl s z
-
--- a refusal clears both slices
-refused-settled : (r : code.Package) (rs ss : List ℕ) (n k : ℕ) → r ≡ refused_is n k → Settled (not_read (length rs) (length ss) (refusal n k)) r rs ss
-refused-settled r rs ss n k e = rw e (record {
-  number = refl;
-  place = refl;
-  provable = refl;
-  logic = refl;
-  rules = refl;
-  statements = refl;
-  words = refl;
-  rules-in = omega arith;
-  words-in = omega arith;
-  rule-words = ap zeros (sub-zero (length rs));
-  statement-words = ap zeros (sub-zero (length ss));
-})
-
-settled-by : (r : code.Package) (rs ss : List ℕ) (x : Res Refusal Package) → Scanned x r rs ss → r.number ≢ 0 → Settled (read_by (length rs) (length ss) x) r rs ss
-unfolding read_by
-settled-by r rs ss (ok p) s z = absurd (z s.number)
-settled-by r rs ss (no y) s z = refused-settled r rs ss y.number y.place s.0
-
-pub settled-scan : (bs : List ℕ) (r : code.Package) (rs ss : List ℕ) → Scanned (says bs) r rs ss → r.number ≢ 0
-    → Settled (read_gives bs (length rs) (length ss)) r rs ss
-unfolding read_gives
-settled-scan bs r rs ss s z = settled-by r rs ss (says bs) s z
-
--- what is demanded once the rule words fit, and once the statement words do too
-abbrev pub after_words : Package → List Demand
-after_words p = demand (rules_good p.provable p.logic p.rules) bad_rules ∷ []
-
-abbrev pub after_rules : ℕ → Package → List Demand
-after_rules statements p = demand (not (ltb statements (length (counted p.statements)))) no_room ∷ after_words p
-
--- the faults of what was read, by the code's counts
-pub short-rules : (bs : List ℕ) (r : code.Package) (rs ss : List ℕ) → (s : Said bs r rs ss) → length rs < r.rules
-    → first_fault (read_demands (length rs) (length ss) s.p) ≡ no_room
-short-rules bs r rs ss s h =
-    let p = s.p in
-    unmet (ap not (lt-ltb (length rs) (length p.rules) (omega (arith, s.stands.rules)))) no_room
-    (after_rules (length ss) p)
-
-roomy-rules : (bs : List ℕ) (r : code.Package) (rs ss : List ℕ) → (s : Said bs r rs ss) → r.rules ≤ length rs
-    → first_fault (read_demands (length rs) (length ss) s.p)
-    ≡ first_fault (after_rules (length ss) s.p)
-roomy-rules bs r rs ss s h =
-    let p = s.p in
-    met (ap not (le-ltb (length rs) (length p.rules) (omega (arith, s.stands.rules)))) no_room
-    (after_rules (length ss) p)
-
-pub short-words : (bs : List ℕ) (r : code.Package) (rs ss : List ℕ) → (s : Said bs r rs ss) → r.rules ≤ length rs → length ss < r.words
-    → first_fault (read_demands (length rs) (length ss) s.p) ≡ no_room
-short-words bs r rs ss s h k =
-    let p = s.p in
-    roomy-rules bs r rs ss s h ∙ unmet (ap not (lt-ltb (length ss) (length (counted p.statements)) (omega (arith, s.stands.words)))) no_room
-    (after_words p)
-
--- the rules are judged where they stand
-good-fault : (b : Bool) → first_fault (demand b bad_rules ∷ []) ≡ pick b accepted bad_rules
-unfolding first_fault
-good-fault true = refl
-good-fault false = refl
-
-pub rules-fault : (bs : List ℕ) (r : code.Package) (rs ss : List ℕ) (b : Bool) → (s : Said bs r rs ss) → r.rules ≤ length rs → r.words ≤ length ss
-    → rules_good r.provable r.logic (take (r.rules - 0) (drop 0 rs)) ≡ b → first_fault (read_demands (length rs) (length ss) s.p) ≡ pick b accepted bad_rules
-rules-fault bs r rs ss b s h k e =
-    let p = s.p in
-    let t = s.stands in
-    let n : r.rules - 0 ≡ length p.rules = omega (arith, t.rules) in
-    let front : take (r.rules - 0) rs ≡ p.rules = rw n (t.rule-words (omega (arith, t.rules))) in
-    let good : rules_good p.provable p.logic p.rules ≡ b = rw (← t.provable, ← t.logic, ← front) e in
-    roomy-rules bs r rs ss s h ∙ met (ap not (le-ltb (length ss) (length (counted p.statements)) (omega (arith, t.words)))) no_room
-    (after_words p)
-    ∙ good-fault (rules_good p.provable p.logic p.rules) ∙ rw good
-
-pub settled-refused : (bs : List ℕ) (r : code.Package) (rs ss : List ℕ) (n : ℕ) (r' : code.Package) → (s : Said bs r rs ss)
-    → first_fault (read_demands (length rs) (length ss) s.p) ≡ suc n → r' ≡ refused_is (suc n) 0 → Settled (read_gives bs (length rs) (length ss)) r' rs ss
-unfolding read_gives read_by read_after
-settled-refused bs r rs ss n r' s h e = rw (s.all, h) (refused-settled r' rs ss (suc n) 0 e)
-
-front_kept : (s ws : List ℕ) (n : ℕ) → n ≡ length ws → Holds s ws → n ≤ length s → cleared_from s n ≡ padded ws (length s)
-front_kept s ws n e h k = ap (λ (l : List ℕ). padded l (length s)) (ap (λ (m : ℕ). take m s) e ∙ h (omega arith))
-
-pub settled-read : (bs : List ℕ) (r : code.Package) (rs ss : List ℕ) → (s : Said bs r rs ss) → r.rules ≤ length rs → r.words ≤ length ss
-    → first_fault (read_demands (length rs) (length ss) s.p) ≡ 0 → Settled (read_gives bs (length rs) (length ss)) r rs ss
-unfolding read_gives read_by read_after
-settled-read bs r rs ss s h k z =
-    let t = s.stands in
-    rw (s.all, z) (record {
-      number = t.number;
-      place = t.place;
-      provable = t.provable;
-      logic = t.logic;
-      rules = t.rules;
-      statements = t.statements;
-      words = t.words;
-      rules-in = h;
-      words-in = k;
-      rule-words = front_kept rs s.p.rules r.rules t.rules t.rule-words h;
-      statement-words = front_kept ss (counted s.p.statements) r.words t.words t.statement-words k;
-    })
-
--- the slices cleared behind what was read
-pub read_is_lem : (g : Read) (r : code.Package) (rs ss rs' ss' : List ℕ) → Settled g r rs ss → rs' ≡ cleared_from rs r.rules → ss' ≡ cleared_from ss r.words
-    → read_is r rs' ss' ≡ g
-read_is_lem g r rs ss rs' ss' s a b = λ i. record {
-  number = s.number i;
-  place = s.place i;
-  provable = s.provable i;
-  logic = s.logic i;
-  rules = s.rules i;
-  statements = s.statements i;
-  words = s.words i;
-  rule-words = (a ∙ s.rule-words) i;
-  statement-words = (b ∙ s.statement-words) i;
-}

@@ -1,5 +1,5 @@
 -- An old rule put into the slice, item by item.
-use Prim.Native.Nat.{ℕ, zero, suc, ◌+◌, ◌*◌, ◌-◌, ◌/◌, ◌%◌, ◌≤◌, ◌<◌}
+use Prim.Native.Nat.{ℕ, zero, suc, ◌+◌, ◌*◌, ◌/◌, ◌%◌, ◌≤◌, ◌<◌}
 use mathlib.Core.Path.{◌≡◌, refl, sym, ap, ◌∙◌}
 use mathlib.Core.Bool.{true}
 use mathlib.Core.List.{List, [], ◌∷◌, ◌++◌, append_assoc, append-nil}
@@ -8,6 +8,8 @@ use native.Mathlib.Numerals.{add-one}
 use native.Mathlib.Omega.{arith}
 use lib.ListN.{length, get_or, take, drop, length-append, length-drop, drop_of_length-le}
 use lib.Seq.{take_at, drop_at, drop-drop, length-take-le}
+use Rattle.std.specs.Prelude.{slice_index_or}
+use Rattle.std.specs.Simd.{first_chunks}
 use Rattle.package.specs.Bytes.{little, first_words, words_of}
 use Rattle.package.specs.Package.{old_rule, old_width, sized, numbered, renewed}
 use Rattle.package.specs.Code.{Put, PutItem}
@@ -15,7 +17,7 @@ use Rattle.package.proofs.Theorems.Bytes.{words-length}
 use Rattle.package.proofs.Theorems.Records.{rule-size}
 use Rattle.package.proofs.Theorems.Old.{numbered-pairs}
 use Rattle.package.proofs.Theorems.Trips.{two-words}
-use Rattle.package.proofs.Numbers.{word_at}
+use Rattle.package.proofs.Numbers.{word_at, chunk_at}
 
 -- words put one after another
 put_both : (s s₁ s₂ xs ys : List ℕ) (at next : ℕ) → length s₁ ≡ length s → next ≡ at + length xs → Put s at xs s₁ → Put s₁ next ys s₂ → Put s at (xs ++ ys) s₂
@@ -85,7 +87,6 @@ pub record OldPut (s : List ℕ) (at : ℕ) (body s' : List ℕ) (next v i : ℕ
   pub next-is : next ≡ at + length done
   pub rest : done ++ numbered v (words_of (drop i body)) ≡ numbered 1 (words_of (drop 8 body))
   pub inside : i ≤ length body
-  pub items : (length body - i) % 8 ≡ 0
   pub few : next ≤ at + i
   pub slots : 8 * v ≤ i
 
@@ -100,32 +101,30 @@ old-start s at body z =
       next-is = omega arith;
       rest = refl;
       inside = b.0;
-      items = omega (arith, b.0, b.1);
       few = omega arith;
       slots = omega arith;
     }
 
--- there is an item at byte i
-pub old-item : (s : List ℕ) (at : ℕ) (body s' : List ℕ) (next v i : ℕ) → OldPut s at body s' next v i → i < length body
-    → (i + 8 ≤ length body) × (take (i + 8 - i) (drop i body) ≡ take 8 (drop i body)) × (length (take (i + 8 - i) (drop i body)) ≡ 8)
-old-item s at body s' next v i o h =
-    let k : i + 8 ≤ length body = omega (arith, o.items) in
-    let e : i + 8 - i ≡ 8 = omega arith in
-    rw e (k, refl, length-take-le 8 (drop i body) (omega (arith, length-drop i body)))
+-- item k stands at byte 8 + 8 k
+abbrev pub item_at : ℕ → ℕ
+item_at k = 8 + 8 * k
 
-pub old-more : (s : List ℕ) (at : ℕ) (body s₁ s₂ : List ℕ) (next v w i : ℕ) → OldPut s at body s₁ next v i → i < length body
-    → PutItem s₁ next (take (i + 8 - i) (drop i body)) v w s₂ → length s₂ ≡ length s₁ → OldPut s at body s₂ (next + 3) w (i + 8)
-old-more s at body s₁ s₂ next v w i o h p l =
-    let t = old-item s at body s₁ next v i o h in
-    let q : PutItem s₁ next (take 8 (drop i body)) v w s₂ = rw t.1 at p in
+pub item-here : (body rest : List ℕ) (items : List (List ℕ)) (k : ℕ) → rest ≡ drop 8 body → items ≡ first_chunks 8 (length rest / 8) rest → k < length rest / 8
+    → slice_index_or items k [] ≡ take 8 (drop (item_at k) body)
+item-here body rest items k e f h =
+    rw (f, e) (chunk_at 8 (length (drop 8 body) / 8) k (drop 8 body) (rw e at h) ∙ ap (λ (l : List ℕ). take 8 l) (drop-drop (8 * k) 8 body))
+
+pub old-more : (s : List ℕ) (at : ℕ) (body s₁ s₂ : List ℕ) (next v w i : ℕ) → OldPut s at body s₁ next v i → i + 8 ≤ length body
+    → PutItem s₁ next (take 8 (drop i body)) v w s₂ → length s₂ ≡ length s₁ → OldPut s at body s₂ (next + 3) w (i + 8)
+old-more s at body s₁ s₂ next v w i o h q l =
     let item = words_of (take 8 (drop i body)) in
     let words = numbered v item in
     let others = words_of (drop (i + 8) body) in
-    let m = length-take-le 8 (drop i body) (omega (arith, t.0, length-drop i body)) in
+    let m = length-take-le 8 (drop i body) (omega (arith, h, length-drop i body)) in
     let n = words-length (take 8 (drop i body)) in
     let three : length words ≡ 3 = omega (arith, numbered-pairs v item (omega arith)) in
     let split : words_of (drop i body) ≡ item ++ others =
-    pair-first (drop i body) (omega (arith, t.0, length-drop i body)) ∙ ap (λ (l : List ℕ). item ++ words_of l) (drop-drop 8 i body) in
+    pair-first (drop i body) (omega (arith, h, length-drop i body)) ∙ ap (λ (l : List ℕ). item ++ words_of l) (drop-drop 8 i body) in
     record {
       done = o.done ++ words;
       put = put_both s s₁ s₂ o.done words at next o.kept o.next-is o.put q.put;
@@ -133,8 +132,7 @@ old-more s at body s₁ s₂ next v w i o h p l =
       next-is = omega (arith, o.next-is, length-append o.done words);
       rest = append_assoc o.done words (numbered w others)
           ∙ ap (λ (l : List ℕ). o.done ++ l) (sym (q.next others) ∙ ap (λ (l : List ℕ). numbered v l) (sym split)) ∙ o.rest;
-      inside = t.0;
-      items = omega (arith, t.0, o.items);
+      inside = h;
       few = omega (arith, o.few);
       slots = omega (arith, o.slots, q.few);
     }

@@ -1,24 +1,21 @@
 // Rule packages: bytes read as typecodes, rules and statements, and these written as bytes.
 #![tactic(auto)]
 
+pub mod kind;
+mod number;
 mod put;
 pub mod reader;
-mod record;
 mod scan;
 
-ghost use Rattle.std.specs.Prelude.{◌≡◌, true, ◌+◌, ◌≤◌, length, drop};
-ghost use Rattle.rules.specs.Rules.{rules_good};
-ghost use Rattle.package.specs.Package.{head_demands, read_gives, write_gives};
-ghost use Rattle.package.specs.Code.{found_in, read_is, Settled, written_is, Weighed, Composed};
+ghost use Rattle.std.specs.Prelude.{◌≡◌, ◌≤◌, length};
+ghost use Rattle.package.specs.Package.{read_gives, write_gives};
+ghost use Rattle.package.specs.Code.{read_is, Settled, written_is, Weighed, Composed};
 
-// The record at a place: its kind and all its bytes, or the number that it is refused with.
-#[derive(Clone, Copy)]
-pub enum Found {
-    Record { kind: u32, size: usize },
-    Refused(u32),
-}
+use put::Parcel;
+use scan::Contents;
+use words::{Refusal, Refused};
 
-// What a read answers: the number, the place, both typecodes, and the counts of rule words, of statements and of statement words.
+// What a read answers, as C sees it: the number, the place, both typecodes, and the counts of rule words, of statements and of statement words.
 #[repr(C)]
 #[derive(Clone, Copy)]
 pub struct Package {
@@ -31,7 +28,7 @@ pub struct Package {
     pub words: usize,
 }
 
-// What a write answers: the number, the place, and the count of bytes.
+// What a write answers, as C sees it: the number, the place, and the count of bytes.
 #[repr(C)]
 #[derive(Clone, Copy)]
 pub struct Written {
@@ -42,30 +39,48 @@ pub struct Written {
 
 // ---- read
 
+impl From<Result<Contents, Refused>> for Package {
+    ghost use Rattle.package.specs.Code.{answer_is};
+
+    ghost from_gives = { answer_is };
+
+    fn from(r: Result<Contents, Refused>) -> Package {
+        match r {
+            Ok(contents) => Package {
+                number: words::ACCEPTED,
+                place: 0,
+                provable: contents.codes.provable.0,
+                logic: contents.codes.logic.0,
+                rules: contents.rules,
+                statements: contents.statements,
+                words: contents.words,
+            },
+            Err(y) => Package {
+                number: y.why.into(),
+                place: y.place,
+                provable: 0,
+                logic: 0,
+                rules: 0,
+                statements: 0,
+                words: 0,
+            },
+        }
+    }
+}
+
 // The package's words at the front of the two slices: what stands after them is not said.
-fn settle(bytes: &[u8], rules: &mut [u32], statements: &mut [u32]) -> Package
+fn settle(bytes: &[u8], rules: &mut [u32], statements: &mut [u32]) -> Result<Contents, Refused>
     ensures { Settled (read_gives bytes.now (length rules.old) (length statements.old))
         result rules.new statements.new }
 {
-    let p = scan::scan(bytes, rules, statements);
-    if p.number != words::ACCEPTED {
-        return p;
+    let contents = scan::scan(bytes, rules, statements)?;
+    if rules.len() < contents.rules || statements.len() < contents.words {
+        return Err(Refusal::NoRoom.into());
     }
-    let n = p.rules;
-    if rules.len() < n {
-        return scan::refused(words::NO_ROOM, 0);
+    if !rules::rules_good(&rules[..contents.rules], contents.codes) {
+        return Err(Refusal::BadRules.into());
     }
-    if statements.len() < p.words {
-        return scan::refused(words::NO_ROOM, 0);
-    }
-    let codes = rules::Codes {
-        provable: words::SymbolNo(p.provable),
-        logic: words::SymbolNo(p.logic),
-    };
-    if !rules::rules_good(&rules[0..n], codes) {
-        return scan::refused(words::BAD_RULES, 0);
-    }
-    p
+    Ok(contents)
 }
 
 // A package's typecodes, its rule words, and its statements as counted words; zeros after them, and after a refusal zeros alone.
@@ -73,61 +88,83 @@ pub fn read(bytes: &[u8], rules: &mut [u32], statements: &mut [u32]) -> Package
     ensures { read_is result rules.new statements.new
         ≡ read_gives bytes.now (length rules.old) (length statements.old) }
 {
-    let p = settle(bytes, rules, statements);
-    let n = p.rules;
-    let m = p.words;
-    words::clear_from(rules, n);
-    words::clear_from(statements, m);
+    let p = Package::from(settle(bytes, rules, statements));
+    words::clear_from(rules, p.rules);
+    words::clear_from(statements, p.words);
     p
 }
 
 // ---- write
 
-fn unwritten(number: u32) -> Written
-    ensures { (result.number ≡ number) × (result.place ≡ 0) × (result.length ≡ 0) }
-{
-    Written {
-        number,
-        place: 0,
-        length: 0,
+impl From<Result<usize, Refusal>> for Written {
+    ghost use Rattle.package.specs.Code.{wrote_is};
+
+    ghost from_gives = { wrote_is };
+
+    fn from(r: Result<usize, Refusal>) -> Written {
+        match r {
+            Ok(length) => Written {
+                number: words::ACCEPTED,
+                place: 0,
+                length,
+            },
+            Err(y) => Written {
+                number: y.into(),
+                place: 0,
+                length: 0,
+            },
+        }
     }
 }
 
-// The number, and the bytes that are needed; `room` is there for them.
-fn weigh(codes: rules::Codes, rules: &[u32], statements: &[u32], room: usize) -> Written
+// The bytes that are needed; `room` is there for them.
+fn weigh(
+    codes: rules::Codes,
+    rules: &[u32],
+    statements: &[u32],
+    room: usize,
+) -> Result<usize, Refusal>
     ensures { Weighed (write_gives codes.provable.0 codes.logic.0 rules.now statements.now room) result }
 {
     if !rules::rules_good(rules, codes) {
-        return unwritten(words::BAD_RULES);
+        return Err(Refusal::BadRules);
     }
-    let words::Lists::Whole(n) = words::count_lists(statements) else {
-        return unwritten(words::WRONG_SIZE);
+    let Ok(n) = words::count_lists(statements) else {
+        return Err(Refusal::WrongSize);
     };
-    if !put::short(statements) {
-        return unwritten(words::WRONG_SIZE);
+    let parcel = Parcel {
+        codes,
+        rules,
+        statements,
+    };
+    if !parcel.short() {
+        return Err(Refusal::WrongSize);
     }
-    let length = put::needed(rules, statements, n);
+    let length = parcel.needed(n);
     if room < length {
-        return unwritten(words::NO_ROOM);
+        return Err(Refusal::NoRoom);
     }
-    Written {
-        number: words::ACCEPTED,
-        place: 0,
-        length,
-    }
+    Ok(length)
 }
 
 // The package at the front of the bytes: what stands after it is not said.
-fn compose(codes: rules::Codes, rules: &[u32], statements: &[u32], bytes: &mut [u8]) -> Written
+fn compose(
+    codes: rules::Codes,
+    rules: &[u32],
+    statements: &[u32],
+    bytes: &mut [u8],
+) -> Result<usize, Refusal>
     ensures { Composed (write_gives codes.provable.0 codes.logic.0 rules.now statements.now (length bytes.old))
         result bytes.new }
 {
-    let w = weigh(codes, rules, statements, bytes.len());
-    if w.number != words::ACCEPTED {
-        return w;
-    }
-    put::put_package(bytes, codes, rules, statements);
-    w
+    let length = weigh(codes, rules, statements, bytes.len())?;
+    let parcel = Parcel {
+        codes,
+        rules,
+        statements,
+    };
+    parcel.put(bytes);
+    Ok(length)
 }
 
 // The package of these typecodes, rules and statements, in a slice of any length and content; zeros after it, and after a refusal zeros alone.
@@ -135,8 +172,7 @@ pub fn write(codes: rules::Codes, rules: &[u32], statements: &[u32], bytes: &mut
     ensures { written_is result bytes.new
         ≡ write_gives codes.provable.0 codes.logic.0 rules.now statements.now (length bytes.old) }
 {
-    let w = compose(codes, rules, statements, bytes);
-    let n = w.length;
-    words::clear_bytes_from(bytes, n);
+    let w = Written::from(compose(codes, rules, statements, bytes));
+    bytes[w.length..].fill(0);
     w
 }

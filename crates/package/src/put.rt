@@ -3,129 +3,102 @@ ghost use Rattle.std.specs.Prelude.{◌≡◌, true, ℕ, ◌+◌, ◌*◌, ◌�
 ghost use Rattle.words.specs.Limits.{most_rules};
 ghost use Rattle.words.specs.Counted.{counted, the_lists};
 ghost use Rattle.rules.specs.Code.{some_rules};
-ghost use Rattle.package.specs.Bytes.{bytes_of, word_bytes};
 ghost use Rattle.package.specs.Package.{most_written, short, record_bytes, rule_records, statement_records, written};
-ghost use Rattle.package.specs.Code.{pasted, Room, package_of};
+ghost use Rattle.package.specs.Code.{kind_number, pasted, Room, package_of};
 
-use super::record;
+use super::kind::Kind;
+use super::number::{put_number, put_words};
+
+// What is written: good rules, and statements that are whole.
+#[derive(Clone, Copy)]
+pub struct Parcel<'a> {
+    pub codes: rules::Codes,
+    pub rules: &'a [u32],
+    pub statements: &'a [u32],
+    ghost good: { some_rules rules.now ≡ true },
+    ghost whole: { counted (the_lists statements.now) ≡ statements.now },
+}
 
 // The most tokens of a statement that is written.
 const MOST_WRITTEN: u32 = 1073741823;
 
-// ---- numbers
+// ---- records, each at the front of `to`: how many bytes were written
 
-fn put_half(to: &mut [u8], at: usize, x: u32)
-    requires { at + 2 ≤ length to.old }
-    ensures { to.new ≡ pasted to.old at (bytes_of 2 x) }
-{
-    to[at] = (x % 256) as u8;
-    to[at + 1] = (x / 256 % 256) as u8;
-}
-
-fn put_word(to: &mut [u8], at: usize, x: u32)
-    requires { at + 4 ≤ length to.old }
-    ensures { to.new ≡ pasted to.old at (bytes_of 4 x) }
-{
-    to[at] = (x % 256) as u8;
-    to[at + 1] = (x / 256 % 256) as u8;
-    to[at + 2] = (x / 256 / 256 % 256) as u8;
-    to[at + 3] = (x / 256 / 256 / 256 % 256) as u8;
-}
-
-fn put_words(to: &mut [u8], at: usize, ws: &[u32])
-    requires { at + 4 * length ws.now ≤ length to.old }
-    ensures { to.new ≡ pasted to.old at (word_bytes ws.now) }
-{
-    let mut i = 0;
-    while i < ws.len() {
-        put_word(to, at + 4 * i, ws[i]);
-        i += 1;
-    }
-}
-
-// ---- records
-
-// A record from `at` on: where it ends.
-fn put_record(to: &mut [u8], at: usize, kind: u32, ws: &[u32]) -> usize
-    requires { Room to.old at (record_bytes kind ws.now) × (length ws.now ≤ most_written) }
-    ensures { (result ≡ at + length (record_bytes kind ws.now)) × (to.new ≡ pasted to.old at (record_bytes kind ws.now)) }
+fn put_record(to: &mut [u8], kind: Kind, ws: &[u32]) -> usize
+    requires { Room to.old 0 (record_bytes (kind_number kind) ws.now) × (length ws.now ≤ most_written) }
+    ensures { (result ≡ length (record_bytes (kind_number kind) ws.now)) × (to.new ≡ pasted to.old 0 (record_bytes (kind_number kind) ws.now)) }
 {
     let size = 4 * ws.len();
-    put_word(to, at, (2 + size) as u32);
-    put_half(to, at + 4, kind);
-    put_words(to, at + 6, ws);
-    at + 6 + size
+    put_number::<4>(to, (2 + size) as u32);
+    put_number::<2>(&mut to[4..], kind.into());
+    put_words(&mut to[6..], ws);
+    6 + size
 }
 
-// A record for each rule.
-fn put_rules(to: &mut [u8], at: usize, rules: &[u32]) -> usize
-    requires { Room to.old at (rule_records most_rules rules.now) × (some_rules rules.now ≡ true) }
-    ensures { (result ≡ at + length (rule_records most_rules rules.now))
-        × (to.new ≡ pasted to.old at (rule_records most_rules rules.now)) }
-{
-    let mut next = at;
-    let mut i = 0;
-    while i < rules.len() {
-        let end = i + rules::size_of(&rules[i..]);
-        next = put_record(to, next, record::ONE_RULE, &rules[i..end]);
-        i = end;
-    }
-    next
-}
-
-// Whether no statement is too long for its record.
-pub fn short(statements: &[u32]) -> bool
-    requires { counted (the_lists statements.now) ≡ statements.now }
-    ensures { result ≡ short (the_lists statements.now) }
-{
-    let mut i = 0;
-    while i < statements.len() {
-        let n = statements[i];
-        if MOST_WRITTEN < n {
-            return false;
+impl<'a> Parcel<'a> {
+    // A record for each rule.
+    fn put_rules(self, to: &mut [u8]) -> usize
+        requires { Room to.old 0 (rule_records most_rules self.rules.now) }
+        ensures { (result ≡ length (rule_records most_rules self.entry.rules.now))
+            × (to.new ≡ pasted to.old 0 (rule_records most_rules self.entry.rules.now)) }
+    {
+        let mut next = 0;
+        for (_, rest) in rules::each(self.rules) {
+            let rule = &rest[..rules::size_of(rest)];
+            next += put_record(&mut to[next..], Kind::OneRule, rule);
         }
-        i += 1 + (n as usize);
+        next
     }
-    true
-}
 
-// A record for each statement.
-fn put_statements(to: &mut [u8], at: usize, statements: &[u32]) -> usize
-    requires { Room to.old at (statement_records (the_lists statements.now)) × (counted (the_lists statements.now) ≡ statements.now)
-        × (short (the_lists statements.now) ≡ true) }
-    ensures { (result ≡ at + length (statement_records (the_lists statements.now)))
-        × (to.new ≡ pasted to.old at (statement_records (the_lists statements.now))) }
-{
-    let mut next = at;
-    let mut i = 0;
-    while i < statements.len() {
-        let start = i + 1;
-        let end = start + (statements[i] as usize);
-        next = put_record(to, next, record::STATEMENT, &statements[start..end]);
-        i = end;
+    // Whether no statement is too long for its record.
+    pub fn short(self) -> bool
+        ensures { result ≡ short (the_lists self.entry.statements.now) }
+    {
+        let mut rest = self.statements;
+        while let Some((count, after)) = rest.split_first() {
+            if MOST_WRITTEN < *count {
+                return false;
+            }
+            rest = &after[*count as usize..];
+        }
+        true
     }
-    next
-}
 
-// ---- a whole package
+    // A record for each statement. Its walk and that of the rules differ in where a record's words end, and so in all that is known there.
+    fn put_statements(self, to: &mut [u8]) -> usize
+        requires { Room to.old 0 (statement_records (the_lists self.statements.now)) × (short (the_lists self.statements.now) ≡ true) }
+        ensures { (result ≡ length (statement_records (the_lists self.entry.statements.now)))
+            × (to.new ≡ pasted to.old 0 (statement_records (the_lists self.entry.statements.now))) }
+    {
+        let mut next = 0;
+        let mut rest = self.statements;
+        while let Some((count, after)) = rest.split_first() {
+            let (tokens, others) = after.split_at(*count as usize);
+            next += put_record(&mut to[next..], Kind::Statement, tokens);
+            rest = others;
+        }
+        next
+    }
 
-// The bytes that a package of good rules and so many statements needs.
-pub fn needed(rules: &[u32], statements: &[u32], count: usize) -> usize
-    requires { (some_rules rules.now ≡ true) × (counted (the_lists statements.now) ≡ statements.now) × (count ≡ length (the_lists statements.now)) }
-    ensures { (p l : ℕ) → result ≡ length (written (package_of p l rules.now statements.now)) }
-{
-    let r = rules::count(rules) as usize;
-    20 + 6 * r + 4 * rules.len() + 2 * count + 4 * statements.len()
-}
+    // The bytes that it needs, of so many statements.
+    pub fn needed(self, count: usize) -> usize
+        requires { count ≡ length (the_lists self.statements.now) }
+        ensures { result ≡ length (written (package_of self.entry.codes.provable.0 self.entry.codes.logic.0 self.entry.rules.now self.entry.statements.now)) }
+    {
+        let r = rules::count(self.rules) as usize;
+        20 + 6 * r + 4 * self.rules.len() + 2 * count + 4 * self.statements.len()
+    }
 
-pub fn put_package(to: &mut [u8], codes: rules::Codes, rules: &[u32], statements: &[u32])
-    requires { Room to.old 0 (written (package_of codes.provable.0 codes.logic.0 rules.now statements.now))
-        × (some_rules rules.now ≡ true) × (counted (the_lists statements.now) ≡ statements.now) × (short (the_lists statements.now) ≡ true) }
-    ensures { to.new ≡ pasted to.old 0 (written (package_of codes.provable.0 codes.logic.0 rules.now statements.now)) }
-{
-    let pair = [codes.provable.0, codes.logic.0];
-    let head = put_record(to, 0, record::TYPECODES, &pair);
-    let middle = put_rules(to, head, rules);
-    let end = put_statements(to, middle, statements);
-    put_record(to, end, record::THE_END, &rules[0..0]);
+    // The whole package, at the front of `to`.
+    pub fn put(self, to: &mut [u8])
+        requires { Room to.old 0 (written (package_of self.codes.provable.0 self.codes.logic.0 self.rules.now self.statements.now))
+            × (short (the_lists self.statements.now) ≡ true) }
+        ensures { to.new ≡ pasted to.old 0 (written (package_of self.entry.codes.provable.0 self.entry.codes.logic.0 self.entry.rules.now self.entry.statements.now)) }
+    {
+        let pair = [self.codes.provable.0, self.codes.logic.0];
+        let head = put_record(to, Kind::Typecodes, &pair);
+        let middle = head + self.put_rules(&mut to[head..]);
+        let end = middle + self.put_statements(&mut to[middle..]);
+        put_record(&mut to[end..], Kind::TheEnd, &[]);
+    }
 }

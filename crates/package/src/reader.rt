@@ -1,9 +1,18 @@
-// A package and a place in it. The work is done by the core, on the bytes and the place.
-ghost use Rattle.std.specs.Prelude.{◌≡◌, drop};
-ghost use Rattle.package.specs.Package.{head_demands};
-ghost use Rattle.package.specs.Code.{found_in};
+// A package and a place in it, and the record that stands there.
+ghost use Rattle.std.specs.Prelude.{◌≡◌, drop, length};
+ghost use Rattle.package.specs.Package.{whole, head_demands, record_demands};
+ghost use Rattle.package.specs.Code.{FoundIn, last_number};
 
-use super::{Found, record};
+use super::kind::Kind;
+use super::number::number_of;
+use words::Refusal;
+
+// A record: its kind, and how many bytes it has in all.
+#[derive(Clone, Copy, PartialEq, Eq)]
+pub struct Record {
+    pub kind: Kind,
+    pub size: usize,
+}
 
 #[derive(Clone, Copy)]
 pub struct Reader<'a> {
@@ -11,29 +20,77 @@ pub struct Reader<'a> {
     pub at: usize,
 }
 
-// At the package's first record.
-pub fn new<'a>(bytes: &'a [u8]) -> Reader<'a>
-    ensures { (result.bytes ≡ bytes.entry) × (result.at ≡ 0) }
+fn whole(s: &[u8]) -> bool
+    ensures { result ≡ whole s.now }
 {
-    Reader { bytes, at: 0 }
+    if s.len() < 4 {
+        return false;
+    }
+    let length = number_of::<4>(s) as usize;
+    2 <= length && length <= s.len() - 4
 }
 
-pub fn at<'a>(r: Reader<'a>) -> usize
-    ensures { result ≡ r.entry.at }
+// The record at the front of the bytes, or what it is refused with: that there is none is tried first.
+fn first_record(s: &[u8]) -> Result<Record, Refusal>
+    ensures { FoundIn (head_demands s.now) s.now result }
 {
-    r.at
+    if s.is_empty() {
+        return Err(Refusal::WrongOrder);
+    }
+    if !whole(s) {
+        return Err(Refusal::CutShort);
+    }
+    let kind = Kind::try_from(number_of::<2>(&s[4..]))?;
+    let size = 4 + (number_of::<4>(s) as usize);
+    if !kind.sized(&s[6..size]) {
+        return Err(Refusal::WrongSize);
+    }
+    Ok(Record { kind, size })
 }
 
-// The record at the reader's place.
-pub fn next<'a>(r: Reader<'a>) -> Found
-    ensures { result ≡ found_in (head_demands (drop r.entry.at r.entry.bytes.now)) (drop r.entry.at r.entry.bytes.now) }
-{
-    record::record_at(r.bytes, r.at)
-}
+impl<'a> Reader<'a> {
+    // At the package's first record.
+    pub fn new(bytes: &'a [u8]) -> Reader<'a>
+        ensures { (result.bytes ≡ bytes.entry) × (result.at ≡ 0) }
+    {
+        Reader { bytes, at: 0 }
+    }
 
-// The same package at another place.
-pub fn moved<'a>(r: Reader<'a>, at: usize) -> Reader<'a>
-    ensures { (result.bytes ≡ r.entry.bytes) × (result.at ≡ at) }
-{
-    Reader { bytes: r.bytes, at }
+    pub fn at(self) -> usize
+        ensures { result ≡ self.entry.at }
+    {
+        self.at
+    }
+
+    // The record at the reader's place. Past the end of the bytes there is none.
+    pub fn next(self) -> Result<Record, Refusal>
+        ensures { FoundIn (head_demands (drop self.entry.at self.entry.bytes.now)) (drop self.entry.at self.entry.bytes.now) result }
+    {
+        match self.bytes.get(self.at..) {
+            Some(rest) => first_record(rest),
+            None => Err(Refusal::WrongOrder),
+        }
+    }
+
+    // The record at the reader's place, refused also where its kind may not come after the kind `last`.
+    pub(crate) fn next_after(self, last: Option<Kind>) -> Result<Record, Refusal>
+        ensures { FoundIn (record_demands (last_number last) (drop self.entry.at self.entry.bytes.now))
+            (drop self.entry.at self.entry.bytes.now) result }
+    {
+        let record = self.next()?;
+        if !record.kind.in_order(last) {
+            return Err(Refusal::WrongOrder);
+        }
+        Ok(record)
+    }
+
+    // The same package at another place.
+    pub fn moved(self, at: usize) -> Reader<'a>
+        ensures { (result.bytes ≡ self.entry.bytes) × (result.at ≡ at) }
+    {
+        Reader {
+            bytes: self.bytes,
+            at,
+        }
+    }
 }

@@ -1,25 +1,24 @@
 // A package's records one after another, their words put into two slices as far as there is room.
 ghost use Rattle.std.specs.Prelude.{◌≡◌, true, List, [], ◌∷◌, ℕ, ◌+◌, ◌≤◌, ◌<◌, ◌^◌, length};
 ghost use Rattle.package.specs.Bytes.{words_of};
-ghost use Rattle.package.specs.Package.{typecodes, one_rule, old_rule, statement, the_end, sized, renewed, says};
-ghost use Rattle.package.specs.Code.{refused_is, Put, PutItem, Takes, Scanned, Small};
+ghost use Rattle.package.specs.Package.{typecodes, one_rule, old_rule, statement, sized, renewed, says};
+ghost use Rattle.package.specs.Code.{kind_number, Put, PutItem, Takes, Scanned, Small};
 
-use super::{Found, Package, record};
+use super::kind::Kind;
+use super::number::{copy_words, number_of};
+use super::reader::Reader;
+use words::{Refusal, Refused, SymbolNo};
 
-// A refusal, or with the number 0 a package of nothing.
-pub fn refused(number: u32, place: usize) -> Package
-    ensures { result ≡ refused_is number place }
-{
-    Package {
-        number,
-        place,
-        provable: 0,
-        logic: 0,
-        rules: 0,
-        statements: 0,
-        words: 0,
-    }
+// What was read: both typecodes, and how many rule words, statements and statement words.
+#[derive(Clone, Copy)]
+pub struct Contents {
+    pub codes: rules::Codes,
+    pub rules: usize,
+    pub statements: usize,
+    pub words: usize,
 }
+
+// ---- a record's words
 
 // A word at `at`, if there is room for it.
 fn put_word(to: &mut [u32], at: usize, x: u32)
@@ -30,32 +29,13 @@ fn put_word(to: &mut [u32], at: usize, x: u32)
     }
 }
 
-// The words of the bytes from `at` on, if there is room for all of them.
-fn put_words(to: &mut [u32], at: usize, body: &[u8])
-    ensures { Put to.old at (words_of body.now) to.new }
-{
-    let n = body.len() / 4;
-    if to.len() < at {
-        return;
-    }
-    if to.len() - at < n {
-        return;
-    }
-    let mut i = 0;
-    while i < n {
-        let from = 4 * i;
-        to[at + i] = record::word_of(&body[from..]);
-        i += 1;
-    }
-}
-
 // An old rule's item, and its third word: v for a slot. The variable of the next slot.
-fn put_item(to: &mut [u32], at: usize, item: &[u8], v: u32) -> u32
-    requires { (length item.now ≡ 8) × (at < 2 ^ 63) × (v < 2 ^ 31) }
+fn put_item(to: &mut [u32], at: usize, item: &[u8; 8], v: u32) -> u32
+    requires { (at < 2 ^ 63) × (v < 2 ^ 31) }
     ensures { PutItem to.old at item.now v result to.new }
 {
-    put_words(to, at, item);
-    if record::word_of(item) == 0 {
+    copy_words(to, at, item);
+    if number_of::<4>(item) == 0 {
         put_word(to, at + 2, 0);
         return v;
     }
@@ -69,138 +49,125 @@ fn put_old_rule(to: &mut [u32], at: usize, body: &[u8]) -> usize
     ensures { Put to.old at (renewed (words_of body.now)) to.new
         × (result ≡ at + length (renewed (words_of body.now))) }
 {
-    put_words(to, at, &body[0..8]);
+    let (head, rest) = body.split_at(8);
+    copy_words(to, at, head);
+    let (items, _) = rest.as_chunks::<8>();
     let mut next = at + 2;
     let mut v: u32 = 1;
-    let mut i = 8;
-    while i < body.len() {
-        let end = i + 8;
-        v = put_item(to, next, &body[i..end], v);
+    for item in items {
+        v = put_item(to, next, item, v);
         next += rules::ITEM_WIDTH;
-        i = end;
     }
     next
 }
 
-fn take_typecodes(p: Package, body: &[u8]) -> Package
-    requires { length body.now ≡ 8 }
-    ensures { (rs ss : List ℕ) → Takes p typecodes body.now result rs ss rs ss }
-{
-    Package {
-        number: words::ACCEPTED,
-        place: 0,
-        provable: record::word_of(body),
-        logic: record::word_of(&body[4..]),
-        rules: p.rules,
-        statements: p.statements,
-        words: p.words,
+// `Small` stays a `requires`: a body's words may pass any bound that is the counts' own, and only `scan` knows the bytes that bound them.
+impl Contents {
+    fn take_typecodes(self, body: &[u8]) -> Contents
+        requires { length body.now ≡ 8 }
+        ensures { (rs ss : List ℕ) → Takes self typecodes body.now result rs ss rs ss }
+    {
+        let codes = rules::Codes {
+            provable: SymbolNo(number_of::<4>(body)),
+            logic: SymbolNo(number_of::<4>(&body[4..])),
+        };
+        Contents { codes, ..self }
     }
-}
 
-fn take_rule(p: Package, body: &[u8], rules: &mut [u32]) -> Package
-    requires { Small p }
-    ensures { (ss : List ℕ) → Takes p one_rule body.now result rules.old ss rules.new ss }
-{
-    let n = p.rules;
-    put_words(rules, n, body);
-    Package {
-        number: words::ACCEPTED,
-        place: 0,
-        provable: p.provable,
-        logic: p.logic,
-        rules: n + body.len() / 4,
-        statements: p.statements,
-        words: p.words,
-    }
-}
-
-// An old rule's slots get their variables.
-fn take_old_rule(p: Package, body: &[u8], rules: &mut [u32]) -> Package
-    requires { Small p × (length body.now < 2 ^ 32) × (sized old_rule body.now ≡ true) }
-    ensures { (ss : List ℕ) → Takes p old_rule body.now result rules.old ss rules.new ss }
-{
-    let end = put_old_rule(rules, p.rules, body);
-    Package {
-        number: words::ACCEPTED,
-        place: 0,
-        provable: p.provable,
-        logic: p.logic,
-        rules: end,
-        statements: p.statements,
-        words: p.words,
-    }
-}
-
-// The count of its tokens, then the tokens.
-fn take_statement(p: Package, body: &[u8], statements: &mut [u32]) -> Package
-    requires { Small p × (length body.now < 2 ^ 32) }
-    ensures { (rs : List ℕ) → Takes p statement body.now result rs statements.old rs statements.new }
-{
-    let n = body.len() / 4;
-    let at = p.words;
-    put_word(statements, at, n as u32);
-    put_words(statements, at + 1, body);
-    Package {
-        number: words::ACCEPTED,
-        place: 0,
-        provable: p.provable,
-        logic: p.logic,
-        rules: p.rules,
-        statements: p.statements + 1,
-        words: at + 1 + n,
-    }
-}
-
-// A record's body, put to what was read before it.
-fn take_record(
-    p: Package,
-    kind: u32,
-    body: &[u8],
-    rules: &mut [u32],
-    statements: &mut [u32],
-) -> Package
-    requires { Small p × (length body.now < 2 ^ 32) × (sized kind body.now ≡ true) }
-    ensures { Takes p kind body.now result rules.old statements.old rules.new statements.new }
-{
-    if kind == record::TYPECODES {
-        return take_typecodes(p, body);
-    }
-    if kind == record::ONE_RULE {
-        return take_rule(p, body, rules);
-    }
-    if kind == record::OLD_RULE {
-        return take_old_rule(p, body, rules);
-    }
-    if kind == record::STATEMENT {
-        return take_statement(p, body, statements);
-    }
-    p
-}
-
-// All records: what they say, or the first that is refused.
-pub fn scan(bytes: &[u8], rules: &mut [u32], statements: &mut [u32]) -> Package
-    ensures { Scanned (says bytes.now) result rules.new statements.new }
-{
-    let mut p = refused(words::ACCEPTED, 0);
-    let mut at = 0;
-    let mut last = 0;
-    let mut k: usize = 0;
-    while last != record::THE_END {
-        match record::next_record(bytes, at, last) {
-            Found::Record { kind, size } => {
-                let start = at + 6;
-                at += size;
-                p = take_record(p, kind, &bytes[start..at], rules, statements);
-                last = kind;
-                k += 1;
-            }
-            Found::Refused(n) => {
-                return refused(n, k);
-            }
+    fn take_rule(self, body: &[u8], rules: &mut [u32]) -> Contents
+        requires { Small self }
+        ensures { (ss : List ℕ) → Takes self one_rule body.now result rules.old ss rules.new ss }
+    {
+        copy_words(rules, self.rules, body);
+        Contents {
+            rules: self.rules + body.len() / 4,
+            ..self
         }
     }
-    if at < bytes.len() {
-        return refused(words::WRONG_ORDER, k);
+
+    // An old rule's slots get their variables.
+    fn take_old_rule(self, body: &[u8], rules: &mut [u32]) -> Contents
+        requires { Small self × (length body.now < 2 ^ 32) × (sized old_rule body.now ≡ true) }
+        ensures { (ss : List ℕ) → Takes self old_rule body.now result rules.old ss rules.new ss }
+    {
+        Contents {
+            rules: put_old_rule(rules, self.rules, body),
+            ..self
+        }
     }
-    p
+
+    // The count of its tokens, then the tokens.
+    fn take_statement(self, body: &[u8], statements: &mut [u32]) -> Contents
+        requires { Small self × (length body.now < 2 ^ 32) }
+        ensures { (rs : List ℕ) → Takes self statement body.now result rs statements.old rs statements.new }
+    {
+        let n = body.len() / 4;
+        put_word(statements, self.words, n as u32);
+        copy_words(statements, self.words + 1, body);
+        Contents {
+            statements: self.statements + 1,
+            words: self.words + 1 + n,
+            ..self
+        }
+    }
+
+    // A record's body, put to what was read before it.
+    fn take_record(
+        self,
+        kind: Kind,
+        body: &[u8],
+        rules: &mut [u32],
+        statements: &mut [u32],
+    ) -> Contents
+        requires { Small self × (length body.now < 2 ^ 32) × (sized (kind_number kind) body.now ≡ true) }
+        ensures { Takes self (kind_number kind) body.now result rules.old statements.old rules.new statements.new }
+    {
+        match kind {
+            Kind::Typecodes => self.take_typecodes(body),
+            Kind::OneRule => self.take_rule(body, rules),
+            Kind::OldRule => self.take_old_rule(body, rules),
+            Kind::Statement => self.take_statement(body, statements),
+            Kind::TheEnd => self,
+        }
+    }
+}
+
+// ---- all records
+
+const NOTHING: Contents = Contents {
+    codes: rules::Codes {
+        provable: SymbolNo(0),
+        logic: SymbolNo(0),
+    },
+    rules: 0,
+    statements: 0,
+    words: 0,
+};
+
+// What they say, or the first that is refused.
+pub fn scan(bytes: &[u8], rules: &mut [u32], statements: &mut [u32]) -> Result<Contents, Refused>
+    ensures { Scanned (says bytes.now) result rules.new statements.new }
+{
+    let mut contents = NOTHING;
+    let mut reader = Reader::new(bytes);
+    let mut last = None;
+    let mut k: usize = 0;
+    while last != Some(Kind::TheEnd) {
+        let record = reader
+            .next_after(last)
+            .map_err(|why| Refused { why, place: k })?;
+        let start = reader.at + 6;
+        let end = reader.at + record.size;
+        contents = contents.take_record(record.kind, &bytes[start..end], rules, statements);
+        reader = reader.moved(end);
+        last = Some(record.kind);
+        k += 1;
+    }
+    if reader.at < bytes.len() {
+        return Err(Refused {
+            why: Refusal::WrongOrder,
+            place: k,
+        });
+    }
+    Ok(contents)
 }

@@ -1,23 +1,25 @@
 // What the entry points answer about a package: one line for the package, its tree, and each statement.
-ghost use Rattle.std.specs.Prelude.{◌+◌, ◌≤◌, ◌<◌, length};
+ghost use Rattle.std.specs.Prelude.{length};
+ghost use Rattle.std.specs.Iterator.{at_most};
 
-use crate::sentence;
+use crate::sentence::Outcome;
 use std::io;
 
 // The words that are in use: never more than there are.
 fn front(s: &[u32], n: usize) -> &[u32] {
-    if n <= s.len() {
-        return &s[0..n];
-    }
-    &s[0..0]
-}
-
-fn field<P: Print>(rt: &P, name: &[u8], x: usize) -> io::Result<()> {
-    text::say(rt, name)?;
-    rt.print(x)
+    s.get(..n).unwrap_or(&[])
 }
 
 // ---- a statement
+
+// What statements are parsed by: the rules of a package and their tree.
+#[derive(Clone, Copy)]
+struct Grammar<'a> {
+    codes: rules::Codes,
+    rules: &'a [u32],
+    nodes: &'a [u32],
+    edges: &'a [u32],
+}
 
 // So many passes are always enough.
 fn allowance(tokens: &[u32]) -> u32 {
@@ -27,130 +29,96 @@ fn allowance(tokens: &[u32]) -> u32 {
     4 * (tokens.len() as u32)
 }
 
-fn show_list<P: Print>(rt: &P, list: &[u32]) -> io::Result<()> {
-    text::say(rt, b", list")?;
-    let mut i = 0;
-    while i < list.len() {
-        text::say_word(rt, list[i])?;
-        i += 1;
+impl Grammar<'_> {
+    // Says the answer to statement `k`.
+    fn answer<P: Print>(&self, rt: &P, k: usize, tokens: &[u32]) -> io::Result<()> {
+        let mut frames = [0u32; text::MOST];
+        let mut list = [0u32; text::MOST];
+        let mut work = [0u32; text::MOST];
+        let a = desk::parse(
+            self.codes,
+            self.rules,
+            self.nodes,
+            self.edges,
+            tokens,
+            allowance(tokens),
+            &mut frames,
+            &mut list,
+            &mut work,
+        );
+        print!(rt;
+            "statement {k}: number {}, place {}, passes {}, list",
+            a.number, a.place, a.passes
+        )?;
+        for x in front(&list, a.length as usize) {
+            print!(rt; " {x}")?;
+        }
+        println!(rt; ": {}", Outcome(a.number))
     }
-    Ok(())
 }
 
-fn show_answer<P: Print>(rt: &P, k: usize, a: desk::Answer, list: &[u32]) -> io::Result<()> {
-    field(rt, b"statement ", k)?;
-    field(rt, b": number ", a.number as usize)?;
-    field(rt, b", place ", a.place as usize)?;
-    field(rt, b", passes ", a.passes as usize)?;
-    show_list(rt, list)?;
-    sentence::end_line(rt, a.number)
-}
+// Counted words, a statement's tokens after their count. A count of more words than are left counts as 0.
+#[derive(Drop)]
+struct Statements<'a>(&'a [u32]);
 
-fn statement<P: Print>(
-    rt: &P,
-    k: usize,
-    codes: rules::Codes,
-    rules: &[u32],
-    nodes: &[u32],
-    edges: &[u32],
-    tokens: &[u32],
-) -> io::Result<()> {
-    let mut frames = [0u32; text::MOST];
-    let mut list = [0u32; text::MOST];
-    let mut work = [0u32; text::MOST];
-    let a = desk::parse(
-        codes,
-        rules,
-        nodes,
-        edges,
-        tokens,
-        allowance(tokens),
-        &mut frames,
-        &mut list,
-        &mut work,
-    );
-    show_answer(rt, k, a, front(&list, a.length as usize))
-}
+impl<'a> Iterator for Statements<'a> {
+    type Item = &'a [u32];
 
-// The tokens of the statement whose count stands here: never more than there are words.
-fn tokens_at(statements: &[u32], at: usize) -> &[u32]
-    requires { at < length statements.now }
-    ensures { at + length result.now < length statements.now }
-{
-    let start = at + 1;
-    let n = statements[at] as usize;
-    if n <= statements.len() - start {
-        let end = start + n;
-        return &statements[start..end];
+    ghost remaining = { λ s. at_most (length s.0.now) };
+
+    fn next(&mut self) -> Option<&'a [u32]> {
+        let (count, others) = self.0.split_first()?;
+        let (tokens, others) = others
+            .split_at_checked(*count as usize)
+            .unwrap_or((&[], others));
+        self.0 = others;
+        Some(tokens)
     }
-    &statements[start..start]
-}
-
-fn statements<P: Print>(
-    rt: &P,
-    codes: rules::Codes,
-    rules: &[u32],
-    nodes: &[u32],
-    edges: &[u32],
-    all: &[u32],
-) -> io::Result<()> {
-    let mut at = 0;
-    let mut k: usize = 0;
-    while at < all.len() {
-        let tokens = tokens_at(all, at);
-        statement(rt, k, codes, rules, nodes, edges, tokens)?;
-        at += 1 + tokens.len();
-        k += 1;
-    }
-    Ok(())
 }
 
 // ---- the tree
 
-fn show_tree<P: Print>(rt: &P, m: desk::Made) -> io::Result<()> {
-    field(rt, b"tree: number ", m.number as usize)?;
-    field(rt, b", nodes ", m.nodes as usize)?;
-    field(rt, b", edges ", m.edges as usize)?;
-    sentence::end_line(rt, m.number)
-}
-
 // A package has no commands, so no frame is needed.
-fn tree<P: Print>(rt: &P, codes: rules::Codes, rules: &[u32], all: &[u32]) -> io::Result<()> {
+fn tree<P: Print>(
+    rt: &P,
+    codes: rules::Codes,
+    rules: &[u32],
+    all: Statements<'_>,
+) -> io::Result<()> {
     let mut nodes = [0u32; text::MOST];
     let mut edges = [0u32; text::MOST];
     let mut frames = [0u32; 1];
-    let m = desk::build(
-        codes,
-        rules,
-        &rules[0..0],
-        &mut nodes,
-        &mut edges,
-        &mut frames,
-    );
-    show_tree(rt, m)?;
+    let m = desk::build(codes, rules, &[], &mut nodes, &mut edges, &mut frames);
+    println!(rt;
+        "tree: number {}, nodes {}, edges {}: {}",
+        m.number,
+        m.nodes,
+        m.edges,
+        Outcome(m.number)
+    )?;
     if m.number != words::ACCEPTED {
         return Ok(());
     }
-    let n = m.nodes as usize;
-    let e = words::ROW_WIDTH * (m.edges as usize);
-    statements(rt, codes, rules, front(&nodes, n), front(&edges, e), all)
+    let grammar = Grammar {
+        codes,
+        rules,
+        nodes: front(&nodes, m.nodes as usize),
+        edges: front(&edges, words::ROW_WIDTH * (m.edges as usize)),
+    };
+    for (k, tokens) in all.enumerate() {
+        grammar.answer(rt, k, tokens)?;
+    }
+    Ok(())
 }
 
 // ---- the package
 
-fn show_package<P: Print>(rt: &P, p: package::Package) -> io::Result<()> {
-    field(rt, b"package: number ", p.number as usize)?;
-    field(rt, b", place ", p.place)?;
-    sentence::end_line(rt, p.number)
-}
-
 fn show_counts<P: Print>(rt: &P, p: package::Package) -> io::Result<()> {
-    field(rt, b"typecodes: provable ", p.provable as usize)?;
-    field(rt, b", logic ", p.logic as usize)?;
-    field(rt, b"\ncounts: rule words ", p.rules)?;
-    field(rt, b", statements ", p.statements)?;
-    field(rt, b", statement words ", p.words)?;
-    text::say(rt, b"\n")
+    println!(rt; "typecodes: provable {}, logic {}", p.provable, p.logic)?;
+    println!(rt;
+        "counts: rule words {}, statements {}, statement words {}",
+        p.rules, p.statements, p.words
+    )
 }
 
 // Four bytes are needed for each word of a statement, so the statements of a package that this program takes fit. Rules in the old form
@@ -159,7 +127,12 @@ pub fn package<P: Print>(rt: &P, bytes: &[u8]) -> io::Result<()> {
     let mut rules = [0u32; text::MOST];
     let mut all = [0u32; text::MOST];
     let p = desk::read(bytes, &mut rules, &mut all);
-    show_package(rt, p)?;
+    println!(rt;
+        "package: number {}, place {}: {}",
+        p.number,
+        p.place,
+        Outcome(p.number)
+    )?;
     if p.number != words::ACCEPTED {
         return Ok(());
     }
@@ -168,5 +141,6 @@ pub fn package<P: Print>(rt: &P, bytes: &[u8]) -> io::Result<()> {
         provable: words::SymbolNo(p.provable),
         logic: words::SymbolNo(p.logic),
     };
-    tree(rt, codes, front(&rules, p.rules), front(&all, p.words))
+    let rules = front(&rules, p.rules);
+    tree(rt, codes, rules, Statements(front(&all, p.words)))
 }

@@ -1,95 +1,66 @@
 // A package as text: groups of hex digits, two for each byte, parted by blanks. `00*12` are twelve bytes 0.
-ghost use Rattle.std.specs.Prelude.{◌≤◌, ◌<◌, length};
+ghost use Rattle.std.specs.Prelude.{◌≤◌, ◌<◌, length, IfOk, IfSome};
 
-// Stands for what is no digit. It is too large for two digits with it among them to say a byte.
-const NO_DIGIT: u32 = 256;
+use text::ReadError;
 
-// For what can't be read; no package here is so long.
-pub const UNREAD: usize = 4294967295;
-
-fn digit(b: u8) -> u32
-    ensures { result ≤ 256 }
+fn digit(b: u8) -> Option<u8>
+    ensures { IfSome result (λ d. d < 16) }
 {
     match b {
-        b'0'..=b'9' => (b - 48) as u32,
-        b'a'..=b'f' => (b - 87) as u32,
-        _ => NO_DIGIT,
+        b'0'..=b'9' => Some(b - b'0'),
+        b'a'..=b'f' => Some(b - b'a' + 10),
+        _ => None,
     }
 }
 
-// What the two digits from `i` on say.
-fn byte_at(group: &[u8], i: usize) -> u32
-    requires { i < length group.now }
-{
-    if i + 1 < group.len() {
-        return 16 * digit(group[i]) + digit(group[i + 1]);
+// What two digits say.
+fn byte(pair: &[u8]) -> Result<u8, ReadError> {
+    let [high, low] = pair else {
+        return Err(ReadError::NoNumber);
+    };
+    match (digit(*high), digit(*low)) {
+        (Some(high), Some(low)) => Ok(16 * high + low),
+        _ => Err(ReadError::NoNumber),
     }
-    NO_DIGIT
 }
 
-// A group's bytes, put from `at` on; where they end. A slice that gets full is too short: that is where it ends then.
-fn put(group: &[u8], to: &mut [u8], at: usize) -> usize {
+// A group's bytes, put from `at` on; where they end.
+fn put(digits: &[u8], to: &mut [u8], at: usize) -> Result<usize, ReadError> {
     let mut end = at;
-    let mut i = 0;
-    while i < group.len() {
-        let b = byte_at(group, i);
-        if NO_DIGIT <= b {
-            return UNREAD;
-        }
-        if to.len() <= end {
-            return to.len();
-        }
-        to[end] = b as u8;
+    for pair in digits.chunks(2) {
+        let b = byte(pair)?;
+        *to.get_mut(end).ok_or(ReadError::NoRoom)? = b;
         end += 1;
-        i += 2;
     }
-    end
+    Ok(end)
 }
 
-// The same so many times.
-fn put_often(group: &[u8], times: u64, to: &mut [u8], at: usize) -> usize {
-    if text::BAD <= times {
-        return UNREAD;
+// The same so many times as the item says.
+fn put_item(item: &[u8], to: &mut [u8], at: usize) -> Result<usize, ReadError> {
+    let (digits, times) = match text::split_once(item, b'*') {
+        Some((digits, times)) => (digits, text::number(times)?),
+        None => (item, 1),
+    };
+    if digits.is_empty() {
+        return Err(ReadError::NoNumber);
     }
     let mut end = at;
-    let mut left = times;
-    while left > 0 {
-        if to.len() <= end {
-            return end;
-        }
-        end = put(group, to, end);
-        left -= 1;
+    for _ in 0..times {
+        end = put(digits, to, end)?;
     }
-    end
+    Ok(end)
 }
 
-// Nothing stands between two blanks.
-fn put_group(item: &[u8], to: &mut [u8], at: usize) -> usize {
-    if item.len() == 0 {
-        return at;
-    }
-    let digits = text::piece(item, 0, b'*');
-    if digits.len() == 0 {
-        return UNREAD;
-    }
-    match text::pieces(item, b'*') {
-        1 => put(digits, to, at),
-        2 => put_often(digits, text::number(text::piece(item, 1, b'*')), to, at),
-        _ => UNREAD,
-    }
-}
-
-// A line's bytes; how many there are.
-pub fn put_line(line: &[u8], to: &mut [u8]) -> usize {
-    let items = text::pieces(line, b' ');
+// A line's bytes, at the front of the slice; how many there are. A slice that gets full is too short. Nothing stands between two blanks.
+pub fn read(line: &[u8], to: &mut [u8]) -> Result<usize, ReadError>
+    ensures { IfOk result (λ n. n ≤ length to.new) }
+{
     let mut end = 0;
-    let mut i = 0;
-    while i < items {
+    for item in line.split(|b| *b == b' ').filter(|item| !item.is_empty()) {
+        end = put_item(item, to, end)?;
         if to.len() <= end {
-            return end;
+            return Err(ReadError::NoRoom);
         }
-        end = put_group(text::piece(line, i, b' '), to, end);
-        i += 1;
     }
-    end
+    Ok(end)
 }

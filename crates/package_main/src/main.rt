@@ -8,54 +8,56 @@ mod hex;
 mod sentence;
 
 use std::io;
+use text::ReadError;
 
-// A package at the front of the slice; one that fills it may be longer.
-fn package<P: Print>(rt: &P, bytes: &[u8], n: usize) -> io::Result<()> {
-    if n < bytes.len() {
-        return answers::package(rt, &bytes[0..n]);
-    }
-    if n == hex::UNREAD {
-        return text::say(rt, b"this line can't be read\n");
-    }
-    text::say(
-        rt,
-        b"package: REFUSED, it has more than the 65535 bytes that this program has room for\n",
+// One byte more than this program has room for: what fills a slice of so many may be longer.
+const MOST: usize = 65536;
+
+fn too_long<P: Print>(rt: &P) -> io::Result<()> {
+    println!(rt;
+        "package: REFUSED, it has more than the 65535 bytes that this program has room for"
     )
 }
 
 fn in_hex<P: Print>(rt: &P, line: &[u8]) -> io::Result<()> {
-    let mut bytes = [0u8; 65536];
-    let n = hex::put_line(line, &mut bytes);
-    package(rt, &bytes, n)
+    let mut bytes = [0u8; MOST];
+    match hex::read(line, &mut bytes) {
+        Ok(n) => answers::package(rt, &bytes[..n]),
+        Err(ReadError::NoNumber) => println!(rt; "this line can't be read"),
+        Err(ReadError::NoRoom) => too_long(rt),
+    }
 }
 
 fn take<P: Print>(rt: &P, line: &[u8]) -> io::Result<()> {
-    if text::first(line) == text::REMARK {
-        text::say(rt, line)?;
-        return text::say(rt, b"\n");
+    match line.first() {
+        None | Some(&text::REMARK) => {
+            rt.write_all(line)?;
+            println!(rt;)
+        }
+        Some(_) => in_hex(rt, line),
     }
-    in_hex(rt, line)
 }
 
-fn each<P: Print>(rt: &P, lines: &[u8]) -> io::Result<()> {
-    let count = text::pieces(lines, b'\n');
-    let mut i = 0;
-    while i < count {
-        take(rt, text::piece(lines, i, b'\n'))?;
-        i += 1;
+fn each<P: Print>(rt: &P, lines: &[u8], whole: bool) -> io::Result<()> {
+    for line in lines.split(|b| *b == b'\n') {
+        take(rt, line)?;
+    }
+    if !whole {
+        println!(rt; "the text is too long, its end is NOT read")?;
     }
     Ok(())
 }
 
 fn main(rt: HostRuntime) -> io::Result<()> {
-    let mut all = [0u8; 65536];
+    let mut all = [0u8; MOST];
     let n = text::read_full(&mut rt.stdin(), &mut all)?;
-    if all[0] != text::REMARK {
-        return package(&rt, &all, n);
+    let read = &all[..n];
+    let whole = n < MOST;
+    if read.first() == Some(&text::REMARK) {
+        each(&rt, read, whole)
+    } else if whole {
+        answers::package(&rt, read)
+    } else {
+        too_long(&rt)
     }
-    each(&rt, &all[..n])?;
-    if n == 65536 {
-        text::say(&rt, b"the text is too long, its end is NOT read\n")?;
-    }
-    Ok(())
 }

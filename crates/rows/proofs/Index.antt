@@ -16,8 +16,7 @@ use Rattle.words.specs.Outcome.{pick}
 use Rattle.rules.proofs.Theorems.Every.{All}
 use Rattle.rows.specs.Rows.{Edge, edge_of, edges_of, below, rising, keyed, leaving, bare}
 use Rattle.rows.specs.Code.{row_at, place_of, looks_up, mark, Tabled, Spans, row_named, RootRows}
-use Rattle.rows.specs.declared.Found.{Found}
-use Rattle.rows.specs.declared.Found.TheVariants.{Row, Nothing}
+use Rattle.std.specs.Prelude.{Option, Some, None}
 use Rattle.rows.proofs.Theorems.Order.{Lower, by-from, by_kind, by-symbol, Under, lower-trans, below-under, under-below, nth, rising-between, only_row, together}
 use Rattle.rows.proofs.Theorems.Lookup.{edges-count, edge_at, row-found, none_found}
 use Rattle.rows.proofs.Theorems.Fair.{found}
@@ -79,7 +78,7 @@ record Keyed (ws : List ℕ) (n k s i : ℕ) : Type 0 where
   kind : (edge_of (row_at ws i)).kind ≡ k
   symbol : (edge_of (row_at ws i)).sym ≡ s
 
-found-key : (ws : List ℕ) (n k s i : ℕ) → looks_up ws n k s ≡ Row i → Keyed ws n k s i
+found-key : (ws : List ℕ) (n k s i : ℕ) → looks_up ws n k s ≡ Some i → Keyed ws n k s i
 found-key ws n k s i h =
     let f = row-found ws n k s refl i h in
     let g = found (λ e. Unit {0}) (edges_of ws) n k s (edge_of (row_at ws i)) (every (edges_of ws)) f.finds in
@@ -211,14 +210,14 @@ module _ (ws : List ℕ) (n k low high : ℕ) (r : rising (edges_of ws) ≡ true
         by false false t v = absurd (omega (arith, symbols-rise m i a (omega (arith, ltb-false i m t, eqb-false i m v)) d))
 
   module _ (s : ℕ) where
-    pub search-none : ((i : ℕ) → low ≤ i → i < high → sym_at ws i ≡ s → ⊥) → looks_up ws n k s ≡ Nothing
+    pub search-none : ((i : ℕ) → low ≤ i → i < high → sym_at ws i ≡ s → ⊥) → looks_up ws n k s ≡ None
     search-none f = by (looks_up ws n k s) refl
       where
-        by : (o : Found) → looks_up ws n k s ≡ o → looks_up ws n k s ≡ Nothing
-        by Nothing h = h
-        by (Row i) h = let q = p.all s i h in absurd (f i q.0 q.1 (sym (symbol-read ws i) ∙ (found-key ws n k s i h).symbol))
+        by : (o : Option ℕ) → looks_up ws n k s ≡ o → looks_up ws n k s ≡ None
+        by None h = h
+        by (Some i) h = let q = p.all s i h in absurd (f i q.0 q.1 (sym (symbol-read ws i) ∙ (found-key ws n k s i h).symbol))
 
-    pub search-found : (i : ℕ) → low ≤ i → i < high → sym_at ws i ≡ s → looks_up ws n k s ≡ Row i
+    pub search-found : (i : ℕ) → low ≤ i → i < high → sym_at ws i ≡ s → looks_up ws n k s ≡ Some i
     unfolding keyed
     search-found i a b e = by (looks_up ws n k s) refl
       where
@@ -231,17 +230,17 @@ module _ (ws : List ℕ) (n k low high : ℕ) (r : rising (edges_of ws) ≡ true
             let x = p.alike i a b in
             rw (edge_at ws i (edge_of []) at, eq-eqb c.from n x.0, eq-eqb c.kind k x.1, eq-eqb c.sym s (symbol-read ws i ∙ e))
 
-        by : (o : Found) → looks_up ws n k s ≡ o → looks_up ws n k s ≡ Row i
-        by Nothing h =
+        by : (o : Option ℕ) → looks_up ws n k s ≡ o → looks_up ws n k s ≡ Some i
+        by None h =
             let f = only_row (edges_of ws) r n k s i (edge_of []) (omega (arith, edges-count ws, at)) key in
             absurd (none-ne-some _ (sym (none_found ws n k s refl h) ∙ f))
-        by (Row j) h =
+        by (Some j) h =
             let q = p.all s j h in
             let g : sym_at ws j ≡ s = sym (symbol-read ws j) ∙ (found-key ws n k s j h).symbol in
             let l = half-taken i s a b j q.0 q.1 g (omega arith) in
             let m = half-taken j s q.0 q.1 i a b e (omega arith) in
             let z : j ≡ i = omega arith in
-            h ∙ ap Row z
+            h ∙ ap Some z
 
 -- ---- how the index is filled
 
@@ -336,7 +335,7 @@ pub rooting-more : (ws : List ℕ) (low high : ℕ) → rising (edges_of ws) ≡
     → sym_at ws row < length rs → (w : ℕ) → w ≡ suc row → Rooting ws (set rs (sym_at ws row) w) low (row + 1)
 rooting-more ws low high r p rs row g a b h w e = rw e (with_row ws low high r p rs row g a b h)
 
-pub named-row : (w : ℕ) → w ≢ 0 → Row (w - 1) ≡ row_named w
+pub named-row : (w : ℕ) → w ≢ 0 → Some (w - 1) ≡ row_named w
 named-row zero h = absurd (h refl)
 named-row (suc i) h = let e : suc i - 1 ≡ i = omega arith in rw e
 

@@ -1,25 +1,29 @@
 -- Laws that the proofs of this crate's functions share.
 use mathlib.Core.Path.{◌≡◌, refl, sym, ap, ◌∙◌}
-use mathlib.Core.Bool.{Bool, true, false, false≢true, not, ◌&&◌}
-use mathlib.Core.List.{List, [], ◌∷◌, ◌++◌, map, append-nil, append_assoc}
+use mathlib.Core.Bool.{Bool, true, false, not, ◌&&◌}
+use mathlib.Core.List.{List, [], ◌∷◌, ◌++◌, map}
 use mathlib.Core.Option.{none, some}
-use Prim.Native.Nat.{ℕ, zero, suc, ◌+◌, ◌*◌, ◌-◌, ◌/◌, ◌%◌, ◌≤◌, ◌<◌}
-use native.Mathlib.Nat.{not-suc-le-zero, le_of_suc-le-suc}
+use Prim.Native.Nat.{ℕ, zero, suc, ◌+◌, ◌*◌, ◌-◌, ◌/◌, ◌≤◌, ◌<◌}
+use native.Mathlib.Nat.{not-suc-le-zero, le_of_suc-le-suc, sub-zero}
+use Rattle.std.specs.Bool.{MatchBool, then_some}
+use Rattle.std.proofs.lemmas.Bool.{lt-leb}
 use native.Mathlib.Numerals.{add-one}
 use native.Mathlib.Omega.{arith}
 use lib.Dec.{leb, eqb}
-use lib.ListN.{length, take, drop, get_or, set, drop_of_length-le, get_or-append, length-map, length-take, get_or-map, get_or-eq_default, length-set}
-use lib.Seq.{drop-cons, drop-drop, take_all, take-suc, get_or-drop, get_or-take, set_at, length-take-le, take-take, take-append-le, drop_at, take-suc-set, sets, sets-eq}
-use borrow.Author.Tests.{lt-ltb, le-ltb}
+use lib.ListN.{length, take, drop, get_or, set, drop_of_length-le, length-map, length-take, get_or-map, get_or-eq_default, length-set}
+use lib.Seq.{drop-drop, take_all, take-suc, get_or-drop, get_or-take, length-take-le, take-take, take-append-le, drop_at, take-suc-set, sets, sets-eq}
+use borrow.Author.Tests.{lt-ltb, le-ltb, le-leb}
 use borrow.Rule.Slice.PartMut.{put_mid}
-use Rattle.words.specs.Limits.{most_edges}
+use Rattle.std.specs.List.{copy_within, AllWithin, HoldsAt, range_with_len}
+use Rattle.std.proofs.lemmas.List.FromFn.{length-range_with_len, get_or-range_with_len}
+use Rattle.std.proofs.Common.{zero-add}
 use Rattle.words.specs.Lent.{moved_up}
-use Rattle.words.proofs.Theorems.Tests.{tests}
-use Rattle.rows.specs.Rows.{Reduce, Edge, with_reduce, reduces_of, edge_of, edges_from, edges_of, rows_of, reduce_words, row_words, below, precedes, rising, keyed, bare, good_nodes, good_pair, good_pairs, good_ends, good_rows, edges_good}
-use Rattle.rows.specs.Code.{reduce_is, edge_is, Holds, Adds, row_at, written, put_in, place_of, looks_up}
-use Rattle.rows.specs.declared.Reduce as coded
+use Rattle.rows.specs.Rows.{Reduce, Edge, with_reduce, reduces_of, edge_of, edges_from, edges_of, rows_of, reduce_words, row_words, below, precedes, rising, keyed, bare, good_nodes, good_pair, good_pairs, good_ends, good_rows}
+use Rattle.rows.specs.Code.{reduce_is, reduces_are, key_of, edge_is, Holds, row_at, written, put_in, place_of, looks_up}
+use Rattle.rows.specs.declared.reduce_list.Reduce as coded
+use Rattle.rows.specs.declared.reduce_list.Reduces as listed
 use Rattle.rows.specs.declared.Edge as held
-use Rattle.rows.specs.declared.Found.TheVariants.{Row, Nothing}
+use Rattle.std.specs.Prelude.{Some, None}
 use Rattle.rows.proofs.Theorems.Words.{row-length, last_word}
 use Rattle.rows.proofs.Theorems.Fair.{reduces-length}
 use Rattle.rows.proofs.Theorems.Lookup.{rows_left, rows_step, rows_end, edges-count, edges-left, edges_step, edge_at}
@@ -57,15 +61,22 @@ module _ (n k s : ℕ) (ws : List ℕ) where
 
 module _ (n k s : ℕ) (ws : List ℕ) (p : ℕ) (e : p ≡ place_of n k s (edges_of ws)) where
   module _ (h : p < length ws / 16) where
-    pub look-row : keyed n k s (edge_of (row_at ws p)) ≡ true → looks_up ws n k s ≡ Row p
+    look-row : keyed n k s (edge_of (row_at ws p)) ≡ true → looks_up ws n k s ≡ Some p
     look-row q =
         let z : 0 + p ≡ p = omega arith in
         rw (← e, z) at (place-row n k s (edges_of ws) 0 (edge_of []) (rw (← e) (omega (arith, edges-count ws))) (rw (← e, edge_at ws p (edge_of []) h) q))
 
-    pub look-other : rising (edges_of ws) ≡ true → keyed n k s (edge_of (row_at ws p)) ≡ false → looks_up ws n k s ≡ Nothing
+    look-other : rising (edges_of ws) ≡ true → keyed n k s (edge_of (row_at ws p)) ≡ false → looks_up ws n k s ≡ None
     look-other r q = place_none n k s (edges_of ws) 0 (edge_of []) r λ l. rw (← e, edge_at ws p (edge_of []) h) q
 
-  pub look-past : rising (edges_of ws) ≡ true → length ws / 16 ≤ p → looks_up ws n k s ≡ Nothing
+    pub look-here : rising (edges_of ws) ≡ true → then_some (keyed n k s (edge_of (row_at ws p))) p ≡ looks_up ws n k s
+    look-here r = by (keyed n k s (edge_of (row_at ws p))) refl
+      where
+        by : (b : Bool) → keyed n k s (edge_of (row_at ws p)) ≡ b → then_some b p ≡ looks_up ws n k s
+        by true q = sym (look-row q)
+        by false q = sym (look-other r q)
+
+  pub look-past : rising (edges_of ws) ≡ true → length ws / 16 ≤ p → looks_up ws n k s ≡ None
   look-past r h = place_none n k s (edges_of ws) 0 (edge_of []) r λ l. absurd (omega (arith, edges-count ws))
 
 -- ---- whether rows leave a node: p is where its first would stand
@@ -74,16 +85,13 @@ module _ (n : ℕ) (ws : List ℕ) (p : ℕ) (e : p ≡ place_of n 0 0 (edges_of
   pub bare-past : length ws / 16 ≤ p → bare (edges_of ws) n ≡ true
   bare-past h = place-bare n (edges_of ws) (edge_of []) r λ l. absurd (omega (arith, edges-count ws))
 
-  pub bare-by : p < length ws / 16 → eqb (get_or ws (16 * p) 0) n ≡ not (bare (edges_of ws) n)
-  unfolding edge_of
-  bare-by h = by (eqb (get_or ws (16 * p) 0) n) refl
+  pub bare-by : p < length ws / 16 → eqb (edge_of (row_at ws p)).from n ≡ not (bare (edges_of ws) n)
+  bare-by h = by (eqb (edge_of (row_at ws p)).from n) refl
     where
-      read : (get_or (edges_of ws) p (edge_of [])).from ≡ get_or ws (16 * p) 0
-      read =
-          let z : 16 * p + 0 ≡ 16 * p = omega arith in
-          ap (λ (e : Edge). e.from) (edge_at ws p (edge_of []) h) ∙ rw z at (word_at ws (16 * p) 0 (omega arith))
+      read : (get_or (edges_of ws) p (edge_of [])).from ≡ (edge_of (row_at ws p)).from
+      read = ap (λ (e : Edge). e.from) (edge_at ws p (edge_of []) h)
 
-      by : (b : Bool) → eqb (get_or ws (16 * p) 0) n ≡ b → eqb (get_or ws (16 * p) 0) n ≡ not (bare (edges_of ws) n)
+      by : (b : Bool) → eqb (edge_of (row_at ws p)).from n ≡ b → eqb (edge_of (row_at ws p)).from n ≡ not (bare (edges_of ws) n)
       by true q = rw (q, not-bare n (edges_of ws) p (edge_of []) (omega (arith, edges-count ws)) (rw read q))
       by false q = rw (q, place-bare n (edges_of ws) (edge_of []) r (λ l. rw (← e, read) q))
 
@@ -95,121 +103,101 @@ module _ (ws : List ℕ) (r : ℕ) where
   unfolding precedes
   last_row h d = rw (drop_of_length-le (edges_of ws) {i = r + 1} (omega (arith, edges-count ws)))
 
-  pub next_row : r + 1 < length ws / 16 → (d : Edge)
-      → precedes d (drop (r + 1) (edges_of ws)) ≡ below (get_or ws (16 * r + 16) 0) (get_or ws (16 * r + 16 + 1) 0) (get_or ws (16 * r + 16 + 2) 0) d
-  unfolding precedes edge_of
-  next_row h d =
-      let at : 16 * (r + 1) ≡ 16 * r + 16 = omega arith in
-      let z : 16 * r + 16 + 0 ≡ 16 * r + 16 = omega arith in
-      rw (edges_step ws (r + 1) h, at, word_at ws (16 * r + 16) 0 (omega arith), word_at ws (16 * r + 16) 1 (omega arith), word_at ws (16 * r + 16) 2 (omega arith), z)
-
-pub nodes-step : (rules : ℕ) (ns : List ℕ) (i : ℕ) → i < length ns → good_nodes rules (drop i ns) ≡ leb (get_or ns i 0) rules && good_nodes rules (drop (i + 1) ns)
-unfolding good_nodes
-nodes-step rules ns i h = rw (drop-cons ns i 0 h, add-one)
-
-pub nodes-end : (rules : ℕ) (ns : List ℕ) (i : ℕ) → length ns ≤ i → good_nodes rules (drop i ns) ≡ true
-unfolding good_nodes
-nodes-end rules ns i h = rw (drop_of_length-le ns h)
-
-pub table_step : (ns ws : List ℕ) (rules : ℕ) → length ws % 16 ≡ 0 → length ws / 16 ≤ most_edges → edges_good rules ns ws ≡ good_rows rules ns (rows_of ws) && rising (edges_of ws)
-unfolding edges_good
-table_step ns ws rules e h = search tests
-
--- what is still to be checked at row r of n
-abbrev pub ahead : List ℕ → List ℕ → ℕ → ℕ → ℕ → Bool
-ahead ns ws rules n r = good_rows rules ns (rows_left ws n r) && rising (edges_from (rows_left ws n r))
+  pub next_row : r + 1 < length ws / 16 → (d : Edge) → let e = edge_of (row_at ws (r + 1)) in precedes d (drop (r + 1) (edges_of ws)) ≡ below e.from e.kind e.sym d
+  unfolding precedes
+  next_row h d = rw (edges_step ws (r + 1) h)
 
 and-false : (a : Bool) → a && false ≡ false
 and-false true = refl
 and-false false = refl
 
+nodes-pass : (rules : ℕ) (ns : List ℕ) → ((i : ℕ) → i < length ns → get_or ns i 0 ≤ rules) → good_nodes rules ns ≡ true
+unfolding good_nodes
+nodes-pass rules [] f = refl
+nodes-pass rules (w ∷ ns) f = rw (le-leb w rules (f 0 (omega arith))) (nodes-pass rules ns λ i h. f (suc i) (omega arith))
+
+nodes-fail : (rules : ℕ) (ns : List ℕ) (i : ℕ) → i < length ns → rules < get_or ns i 0 → good_nodes rules ns ≡ false
+unfolding good_nodes
+nodes-fail rules [] i h b = absurd (not-suc-le-zero h)
+nodes-fail rules (w ∷ ns) zero h b = rw (lt-leb w rules b)
+nodes-fail rules (w ∷ ns) (suc i) h b = rw (nodes-fail rules ns i (le_of_suc-le-suc h) b) (and-false (leb w rules))
+
+pub nodes-checked : (rules : ℕ) (ns : List ℕ) (b : Bool) → MatchBool b (AllWithin (λ w. w ≤ rules) ns 0 (length ns)) ((i : ℕ) × (i < length ns) × HoldsAt (λ w. rules < w) ns i) → b ≡ good_nodes rules ns
+nodes-checked rules ns true f = sym (nodes-pass rules ns λ i h. f i 0 (omega arith) h)
+nodes-checked rules ns false f = sym (nodes-fail rules ns f.0 f.1 (f.2 0))
+
+-- what is still to be checked at row r of n
+abbrev pub ahead : List ℕ → List ℕ → ℕ → ℕ → ℕ → Bool
+ahead ns ws rules n r = good_rows rules ns (rows_left ws n r) && rising (edges_from (rows_left ws n r))
+
 pub check-end : (ns ws : List ℕ) (rules n r : ℕ) → n ≤ r → ahead ns ws rules n r ≡ true
 unfolding good_rows edges_from rising
 check-end ns ws rules n r h = rw (rows_end ws n r h)
+
+-- row number r is good and lower than the next
+abbrev pub row_ok : List ℕ → List ℕ → ℕ → ℕ → Bool
+row_ok ns ws rules r = good_ends ns (row_at ws r) && precedes (edge_of (row_at ws r)) (drop (r + 1) (edges_of ws)) && good_pairs rules (row_at ws r) 5 0
+
+-- the same tests in another order
+and-turned : (a b c d e : Bool) → (a && b && c) && (d && e) ≡ a && d && b && (c && e)
+and-turned true true c true e = refl
+and-turned true true c false e = and-false c
+and-turned true false c true e = refl
+and-turned true false c false e = refl
+and-turned false b c d e = refl
 
 module _ (ns ws : List ℕ) (rules r : ℕ) (h : r < length ws / 16) where
   abbrev n : ℕ
   n = length ws / 16
 
-  check-step : ahead ns ws rules n r
-      ≡ (good_ends ns (row_at ws r) && good_pairs rules (row_at ws r) 5 0 && good_rows rules ns (rows_left ws n (r + 1)))
-      && (precedes (edge_of (row_at ws r)) (drop (r + 1) (edges_of ws)) && rising (edges_from (rows_left ws n (r + 1))))
+  check-step : ahead ns ws rules n r ≡ row_ok ns ws rules r && ahead ns ws rules n (r + 1)
   unfolding good_rows edges_from rising
-  check-step = rw (rows_step ws n r h, edges-left n (r + 1) ws)
+  check-step =
+      rw (rows_step ws n r h, edges-left n (r + 1) ws)
+      (and-turned (good_ends ns (row_at ws r)) (good_pairs rules (row_at ws r) 5 0) (good_rows rules ns (rows_left ws n (r + 1)))
+      (precedes (edge_of (row_at ws r)) (edges_from (rows_left ws n (r + 1)))) (rising (edges_from (rows_left ws n (r + 1)))))
 
-  pub ends-bad : good_ends ns (row_at ws r) ≡ false → ahead ns ws rules n r ≡ false
-  ends-bad e = rw (check-step, e)
+-- all rows from number r on are good
+rows-pass : (ns ws : List ℕ) (rules m r : ℕ) → m + r ≡ length ws / 16 → ((i : ℕ) → i < length ws / 16 → row_ok ns ws rules i ≡ true) → ahead ns ws rules (length ws / 16) r ≡ true
+rows-pass ns ws rules zero r e f = check-end ns ws rules (length ws / 16) r (omega arith)
+rows-pass ns ws rules (suc m) r e f = rw (check-step ns ws rules r (omega arith), f r (omega arith)) (rows-pass ns ws rules m (r + 1) (omega arith) f)
 
-  pub order-bad : precedes (edge_of (row_at ws r)) (drop (r + 1) (edges_of ws)) ≡ false → ahead ns ws rules n r ≡ false
-  order-bad e = rw (check-step, e) (and-false (good_ends ns (row_at ws r) && good_pairs rules (row_at ws r) 5 0 && good_rows rules ns (rows_left ws n (r + 1))))
+-- row i is not
+rows-fail : (ns ws : List ℕ) (rules m i r : ℕ) → m + r ≡ i → i < length ws / 16 → row_ok ns ws rules i ≡ false → ahead ns ws rules (length ws / 16) r ≡ false
+rows-fail ns ws rules zero i r e h b =
+    let z : r ≡ i = omega arith in
+    rw z (rw (check-step ns ws rules i h, b))
+rows-fail ns ws rules (suc m) i r e h b =
+    rw (check-step ns ws rules r (omega arith), rows-fail ns ws rules m i (r + 1) (omega arith) h b) (and-false (row_ok ns ws rules r))
 
-  -- a row with bad pairs
-  pub row-bad : good_ends ns (row_at ws r) ≡ true → good_pairs rules (row_at ws r) 5 0 ≡ false → ahead ns ws rules n r ≡ false
-  row-bad e b = rw (check-step, e, b)
+pub rows-checked : (ns ws : List ℕ) (rules : ℕ) (b : Bool) → let is = range_with_len 0 (length ws / 16) in
+    MatchBool b (AllWithin (λ i. row_ok ns ws rules i ≡ true) is 0 (length is)) ((k : ℕ) × (k < length is) × HoldsAt (λ i. row_ok ns ws rules i ≡ false) is k)
+    → b ≡ good_rows rules ns (rows_of ws) && rising (edges_of ws)
+rows-checked ns ws rules true f =
+    let n = length ws / 16 in
+    sym (rw sub-zero at (rows-pass ns ws rules n 0 (omega arith) λ i h.
+    rw (get_or-range_with_len 0 n i 0 h, zero-add) at (f i 0 (omega arith) (rw (length-range_with_len 0 n) h))))
+rows-checked ns ws rules false f =
+    let n = length ws / 16 in
+    let h : f.0 < n = rw (length-range_with_len 0 n) at f.1 in
+    sym (rw sub-zero at (rows-fail ns ws rules f.0 f.0 0 (omega arith) h (rw (get_or-range_with_len 0 n f.0 0 h, zero-add) at (f.2 0))))
 
-  pub row-passed : good_ends ns (row_at ws r) ≡ true → good_pairs rules (row_at ws r) 5 0 ≡ true → precedes (edge_of (row_at ws r)) (drop (r + 1) (edges_of ws)) ≡ true
-      → ahead ns ws rules n (r + 1) ≡ ahead ns ws rules n r
-  row-passed e p o = rw (check-step, e, p, o)
+-- pair number k of a row
+abbrev pub pair_at : ℕ → List ℕ → ℕ → Bool
+pair_at rules row k = good_pair rules k (get_or row 4 0) (get_or row (5 + 2 * k) 0) (get_or row (5 + 2 * k + 1) 0)
 
--- pair number k of the row that starts at word a, as the code reads it
-abbrev pub pair_at : ℕ → List ℕ → ℕ → ℕ → Bool
-pair_at rules ws a k = good_pair rules k (get_or ws (a + 4) 0) (get_or ws (a + 5 + 2 * k) 0) (get_or ws (a + 5 + 2 * k + 1) 0)
-
-pairs-step : (ws : List ℕ) (rules a k : ℕ) → k < 5
-    → good_pairs rules (take 16 (drop a ws)) (5 - k) k ≡ pair_at rules ws a k && good_pairs rules (take 16 (drop a ws)) (5 - (k + 1)) (k + 1)
+pub pairs-step : (row : List ℕ) (rules k : ℕ) → k < 5 → good_pairs rules row (5 - k) k ≡ pair_at rules row k && good_pairs rules row (5 - (k + 1)) (k + 1)
 unfolding good_pairs
-pairs-step ws rules a k h =
+pairs-step row rules k h =
     let e : 5 - k ≡ suc (5 - (k + 1)) = omega arith in
-    let p : a + (5 + 2 * k) ≡ a + 5 + 2 * k = omega arith in
-    let q : a + (6 + 2 * k) ≡ a + 5 + 2 * k + 1 = omega arith in
-    rw (e, word_at ws a 4 (omega arith), word_at ws a (5 + 2 * k) (omega arith), word_at ws a (6 + 2 * k) (omega arith), p, q)
+    let q : 6 + 2 * k ≡ 5 + 2 * k + 1 = omega arith in
+    rw (e, q)
 
 pub pairs_end : (rules k : ℕ) (row : List ℕ) → 5 ≤ k → good_pairs rules row (5 - k) k ≡ true
 unfolding good_pairs
 pairs_end rules k row h = let e : 5 - k ≡ 0 = omega arith in rw e
 
--- a good pair: the pairs after it decide
-pub pairs-more : (ws : List ℕ) (rules a k : ℕ) → k < 5 → pair_at rules ws a k ≡ true
-    → good_pairs rules (take 16 (drop a ws)) (5 - (k + 1)) (k + 1) ≡ good_pairs rules (take 16 (drop a ws)) (5 - k) k
-pairs-more ws rules a k h e = rw (pairs-step ws rules a k h, e)
-
--- a bad pair
-pub pairs-bad : (ws : List ℕ) (rules a k : ℕ) → k < 5 → pair_at rules ws a k ≡ false → good_pairs rules (take 16 (drop a ws)) (5 - k) k ≡ false
-pairs-bad ws rules a k h e = rw (pairs-step ws rules a k h, e)
-
 -- ---- reduce lists
-
-module _ {A : Type 0} where
-  -- of five elements those from k on moved up by one
-  abbrev pub shifted : List A → ℕ → List A
-  shifted old k = take (k + 1) old ++ take (4 - k) (drop k old)
-
-  pub shift_none : (old : List A) → length old ≡ 5 → shifted old 4 ≡ old
-  shift_none old e = append-nil (take 5 old) ∙ take_all 5 old (omega arith)
-
-  -- a turn: the element before k goes to k
-  pub shift-more : (old : List A) (k : ℕ) (d : A) → length old ≡ 5 → 0 < k → k ≤ 4
-      → set (shifted old k) k (get_or (shifted old k) (k - 1) d) ≡ shifted old (k - 1)
-  shift-more old zero d e h b = absurd (not-suc-le-zero h)
-  shift-more old (suc j) d e h b =
-      let one : suc j - 1 ≡ j = omega arith in
-      let more : 4 - j ≡ suc (4 - suc j) = omega arith in
-      let rest : List A = take (4 - suc j) (drop (suc j) old) in
-      let len : length (take (suc (suc j)) old) ≡ suc (suc j) = length-take-le (suc (suc j)) old (omega arith) in
-      let at : get_or (take (suc (suc j)) old ++ rest) j d ≡ get_or old j d =
-      get_or-append (take (suc (suc j)) old) rest d j (omega arith) ∙ get_or-take (suc (suc j)) old j d (omega arith) in
-      rw (one, add-one, add-one, at, more, drop-cons old j d (omega arith))
-      (ap (λ (l : List A). set (l ++ rest) (suc j) (get_or old j d)) (take-suc old (suc j) d (omega arith))
-      ∙ ap (λ (l : List A). set l (suc j) (get_or old j d)) (append_assoc (take (suc j) old) (get_or old (suc j) d ∷ []) rest)
-      ∙ set_at (take (suc j) old) (get_or old (suc j) d) rest (get_or old j d) (suc j) (length-take-le (suc j) old (omega arith)))
-
-  -- the new first element
-  pub shift-done : (old : List A) (a : A) → length old ≡ 5 → set (shifted old 0) 0 a ≡ a ∷ take 4 old
-  shift-done old a e = rw (drop-cons old 0 a (omega arith))
-
--- an edge with other places
-abbrev pub placed : held.Edge → ℕ → List coded.Reduce → held.Edge
-placed e n rs = record { from = e.from; kind = e.kind; symbol = e.symbol; to = e.to; count = n; reduces = rs }
 
 with-room : (d : Reduce) (ds : List Reduce) → length ds < 5 → with_reduce d ds ≡ some (d ∷ ds)
 unfolding with_reduce
@@ -220,22 +208,18 @@ unfolding with_reduce
 with_none d ds h = rw (le-ltb (length ds) 5 h, with_reduce)
 
 -- a sixth
-pub refuses : (e : held.Edge) (d : Reduce) → length e.reduces ≡ 5 → 5 ≤ e.count → Adds e d (record { ok = false; edge = e })
-refuses e d l h =
-    let many : 5 ≤ length (edge_is e).reduces = rw (length-map, take_all e.count e.reduces (omega arith)) (omega arith) in
-    record { gives = λ t. absurd (false≢true t); refuses = λ _. (with_none d (edge_is e).reduces many, refl); rest = refl; fits = λ f. f }
+pub refuses : (m : ℕ) (items : List coded.Reduce) (d : Reduce) → length items ≡ 5 → 5 ≤ m → with_reduce d (map reduce_is (take m items)) ≡ none
+refuses m items d l h = with_none d (map reduce_is (take m items)) (rw (length-map, take_all m items (omega arith)) (omega arith))
 
--- one that there is a place for
-pub adds : (e : held.Edge) (r : coded.Reduce) → length e.reduces ≡ 5 → e.count < 5
-    → Adds e (reduce_is r) (record { ok = true; edge = placed e (e.count + 1) (r ∷ take 4 e.reduces) })
-adds e r l h =
-    let few : length (edge_is e).reduces < 5 = rw (length-map, length-take-le e.count e.reduces (omega arith)) h in
-    record {
-      gives = λ _. rw (with-room (reduce_is r) (edge_is e).reduces few, add-one, take-take e.count 4 e.reduces (omega arith));
-      refuses = λ t. absurd (false≢true (sym t));
-      rest = refl;
-      fits = λ _. omega arith;
-    }
+-- one that there is a place for: the others move up by one, and it comes first
+pub adds : (m : ℕ) (items : List coded.Reduce) (r : coded.Reduce) → length items ≡ 5 → m < 5
+    → with_reduce (reduce_is r) (map reduce_is (take m items)) ≡ some (map reduce_is (take (m + 1) (set (copy_within items 0 4 1) 0 r)))
+adds m [] r l h = absurd (omega (arith, l))
+adds m (x ∷ xs) r l h =
+    let few : length (map reduce_is (take m (x ∷ xs))) < 5 = rw (length-map, length-take-le m (x ∷ xs) (omega arith)) h in
+    let same : take m (take 4 (x ∷ xs) ++ drop 4 xs) ≡ take m (x ∷ xs) =
+    take-append-le m (take 4 (x ∷ xs)) (drop 4 xs) (rw (length-take-le 4 (x ∷ xs) (omega arith)) (omega arith)) ∙ take-take m 4 (x ∷ xs) (omega arith) in
+    rw (with-room (reduce_is r) (map reduce_is (take m (x ∷ xs))) few, add-one, same)
 
 -- ---- a row, read
 
@@ -255,28 +239,25 @@ pairs-read row (suc n) at (r ∷ rs) l h =
     let z : at + 0 ≡ at = omega arith in
     rw (h.0, pairs-read row n (at + 2) rs (le_of_suc-le-suc l) h.1, get_or-drop at row 0 0, get_or-drop at row 1 0, drop-drop 2 at row, z)
 
-pub row_read : (row : List ℕ) (rs : List coded.Reduce) → length rs ≡ 5 → length (edge_of row).reduces ≤ 5 → Pairs row 5 rs
+pub row_read : (row : List ℕ) (rs : List coded.Reduce) → length rs ≡ 5 → length (edge_of row).reduces ≤ 5 → Pairs row 5 rs → (few : get_or row 4 0 ≤ 5)
     → Holds (record {
-      from = record { 0 = get_or row 0 0 };
-      kind = get_or row 1 0;
-      symbol = record { 0 = get_or row 2 0 };
+      key = key_of (edge_of row);
       to = record { 0 = get_or row 3 0 };
-      count = get_or row 4 0;
-      reduces = rs;
+      reduces = record { count = get_or row 4 0; items = rs; few = few };
     }) (edge_of row)
 unfolding edge_of
-row_read row rs l h p =
+row_read row rs l h p few =
     let many = reduces-length (get_or row 4 0) (drop 5 row) in
-    record { says = rw (pairs-read row (get_or row 4 0) 5 rs (omega arith) p); counted = sym many; fits = omega arith }
+    record { says = rw (pairs-read row (get_or row 4 0) 5 rs (omega arith) p); counted = sym many }
 
 -- ---- a row, written
 
 -- the reduce at place k, or zeros
-pub place-used : (e : held.Edge) (k : ℕ) → k < e.count → get_or (edge_is e).reduces k (reduce_is no_reduce) ≡ reduce_is (get_or e.reduces k no_reduce)
-place-used e k h = get_or-map reduce_is (take e.count e.reduces) k no_reduce ∙ ap reduce_is (get_or-take e.count e.reduces k no_reduce h)
+pub place-used : (r : listed.Reduces) (k : ℕ) → k < r.count → get_or (reduces_are r) k (reduce_is no_reduce) ≡ reduce_is (get_or r.items k no_reduce)
+place-used r k h = get_or-map reduce_is (take r.count r.items) k no_reduce ∙ ap reduce_is (get_or-take r.count r.items k no_reduce h)
 
-pub place-unused : (e : held.Edge) (k : ℕ) → e.count ≤ k → get_or (edge_is e).reduces k (reduce_is no_reduce) ≡ reduce_is no_reduce
-place-unused e k h = get_or-eq_default (edge_is e).reduces (reduce_is no_reduce) (rw (length-map, length-take) (omega arith))
+pub place-unused : (r : listed.Reduces) (k : ℕ) → r.count ≤ k → get_or (reduces_are r) k (reduce_is no_reduce) ≡ reduce_is no_reduce
+place-unused r k h = get_or-eq_default (reduces_are r) (reduce_is no_reduce) (rw (length-map, length-take) (omega arith))
 
 -- the words of pair number k
 pair-words : (n k : ℕ) (ds : List Reduce) → k < n
@@ -311,12 +292,12 @@ pub written-more : (row T : List ℕ) (m x : ℕ) → take m row ≡ take m T �
 written-more row T m x h a b e = rw (take-suc-set row m x a, take-suc T m 0 b, h, e)
 
 -- the first five words, stored one by one
-pub written-head : (row : List ℕ) (e : held.Edge) → length row ≡ 16 → length e.reduces ≡ 5 → e.count ≤ 5
-    → take 5 (sets row 0 (e.from.0 ∷ e.kind ∷ e.symbol.0 ∷ e.to.0 ∷ e.count ∷ [])) ≡ take 5 (row_words (edge_is e))
+pub written-head : (row : List ℕ) (e : held.Edge) → length row ≡ 16 → length e.reduces.items ≡ 5
+    → take 5 (sets row 0 (e.key.from.0 ∷ e.key.kind ∷ e.key.symbol.0 ∷ e.to.0 ∷ e.reduces.count ∷ [])) ≡ take 5 (row_words (edge_is e))
 unfolding row_words
-written-head row e l q h =
-    let many : length (edge_is e).reduces ≡ e.count = rw (length-map, length-take-le e.count e.reduces (omega arith)) in
-    rw (sets-eq (e.from.0 ∷ e.kind ∷ e.symbol.0 ∷ e.to.0 ∷ e.count ∷ []) row 0 (omega arith), many)
+written-head row e l q =
+    let many : length (edge_is e).reduces ≡ e.reduces.count = rw (length-map, length-take-le e.reduces.count e.reduces.items (omega (arith, e.reduces.few))) in
+    rw (sets-eq (e.key.from.0 ∷ e.key.kind ∷ e.key.symbol.0 ∷ e.to.0 ∷ e.reduces.count ∷ []) row 0 (omega arith), many)
 
 -- a turn: two words more
 pub written-pair : (row : List ℕ) (e : Edge) (k : ℕ) → k < 5 → length row ≡ 16 → take (5 + 2 * k) row ≡ take (5 + 2 * k) (row_words e)

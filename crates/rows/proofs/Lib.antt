@@ -1,3 +1,4 @@
 pub mod Theorems
 pub mod Laws
+mod Keys
 mod Index

@@ -1,46 +1,46 @@
 -- What the code's structs and answers stand for.
-use Rattle.std.specs.Prelude.{ℕ, zero, suc, ◌+◌, ◌*◌, ◌/◌, ◌≤◌, ◌<◌, ◌≡◌, true, false, List, [], ◌∷◌, ◌++◌, map, length, get_or, take, drop, set}
+use Rattle.std.specs.Prelude.{ℕ, zero, suc, ◌+◌, ◌*◌, ◌/◌, ◌≤◌, ◌<◌, ◌≡◌, true, List, [], ◌∷◌, ◌++◌, map, length, get_or, take, drop, set, Option, Some, None}
 use Rattle.std.proofs.Math.Option.{none, some}
-use Rattle.words.specs.Limits.{row_width, most_reduces, most_edges}
+use Rattle.words.specs.Limits.{row_width, most_edges}
 use Rattle.words.specs.Outcome.{pick}
 use Rattle.rules.specs.Every.{All}
 use Rattle.rows.specs.Rows.{Reduce, Edge, edge_of, rows_from, edges_from, edges_of, row_words, edge_words, below, rising, keyed, with_reduce}
-use Rattle.rows.specs.declared.Reduce as coded
+use Rattle.rows.specs.declared.reduce_list.Reduce as coded
+use Rattle.rows.specs.declared.reduce_list.Reduces as listed
+use Rattle.rows.specs.declared.Key as sought
 use Rattle.rows.specs.declared.Edge as held
-use Rattle.rows.specs.declared.Added.{Added}
-use Rattle.rows.specs.declared.Found.{Found}
-use Rattle.rows.specs.declared.Found.TheVariants.{Row, Nothing}
 
 abbrev pub reduce_is : coded.Reduce → Reduce
 reduce_is d = record { rule = d.rule.0; offset = d.offset }
 
--- the first `count` of the five places are the edge's reduces
+-- the key of an edge
+abbrev pub key_of : Edge → sought.Key
+key_of e = record { from = record { 0 = e.from }; kind = e.kind; symbol = record { 0 = e.sym } }
+
+-- the first `count` of the five places are the reduces
+abbrev pub reduces_are : listed.Reduces → List Reduce
+reduces_are r = map reduce_is (take r.count r.items)
+
 abbrev pub edge_is : held.Edge → Edge
 edge_is e = record {
-  from = e.from.0;
-  kind = e.kind;
-  sym = e.symbol.0;
+  from = e.key.from.0;
+  kind = e.key.kind;
+  sym = e.key.symbol.0;
   to = e.to.0;
-  reduces = map reduce_is (take e.count e.reduces);
+  reduces = reduces_are e.reduces;
 }
 
--- the edge held stands for e, and its count is one that there may be
+-- the edge held stands for e
 pub record Holds (h : held.Edge) (e : Edge) : Type 0 where
   pub says : edge_is h ≡ e
-  pub counted : h.count ≡ length e.reduces
-  pub fits : h.count ≤ most_reduces
+  pub counted : h.reduces.count ≡ length e.reduces
 
 -- ---- reduce lists
 
-abbrev pub with_reduces : Edge → List Reduce → Edge
-with_reduces e ds = record { from = e.from; kind = e.kind; sym = e.sym; to = e.to; reduces = ds }
-
--- what is given back for an edge h and a reduce d: h with d first, or refused and h as it was
-pub record Adds (h : held.Edge) (d : Reduce) (a : Added) : Type 0 where
-  pub gives : a.ok ≡ true → with_reduce d (edge_is h).reduces ≡ some (edge_is a.edge).reduces
-  pub refuses : a.ok ≡ false → (with_reduce d (edge_is h).reduces ≡ none) × (a.edge ≡ h)
-  pub rest : edge_is a.edge ≡ with_reduces (edge_is h) (edge_is a.edge).reduces
-  pub fits : h.count ≤ most_reduces → a.edge.count ≤ most_reduces
+-- what is given back for the reduces held and a reduce d: d before them, or none where a sixth is refused
+abbrev pub Adds : listed.Reduces → Reduce → Option listed.Reduces → Type 0
+Adds h d None = with_reduce d (reduces_are h) ≡ none
+Adds h d (Some r) = with_reduce d (reduces_are h) ≡ some (reduces_are r)
 
 -- ---- rows by number
 
@@ -70,12 +70,12 @@ place_of n k s [] = 0
 place_of n k s (e ∷ es) = pick (below n k s e) (suc (place_of n k s es)) 0
 
 -- the number of the first of these edges with the key, counted from i
-unfoldable pub numbered : ℕ → ℕ → ℕ → ℕ → List Edge → Found
-numbered n k s i [] = Nothing
-numbered n k s i (e ∷ es) = pick (keyed n k s e) (Row i) (numbered n k s (i + 1) es)
+unfoldable pub numbered : ℕ → ℕ → ℕ → ℕ → List Edge → Option ℕ
+numbered n k s i [] = None
+numbered n k s i (e ∷ es) = pick (keyed n k s e) (Some i) (numbered n k s (i + 1) es)
 
 -- the row that a look-up gives back
-abbrev pub looks_up : List ℕ → ℕ → ℕ → ℕ → Found
+abbrev pub looks_up : List ℕ → ℕ → ℕ → ℕ → Option ℕ
 looks_up ws n k s = numbered n k s 0 (edges_of ws)
 
 -- ---- an index: for each node one word, where its rows and where its variable edges start
@@ -99,14 +99,14 @@ pub record Tabled (ws is : List ℕ) : Type 0 where
 pub record Spans (ws : List ℕ) (n k low high : ℕ) : Type 0 where
   pub within : high ≤ length ws / row_width
   pub alike : (i : ℕ) → low ≤ i → i < high → ((edge_of (row_at ws i)).from ≡ n) × ((edge_of (row_at ws i)).kind ≡ k)
-  pub all : (s i : ℕ) → looks_up ws n k s ≡ Row i → (low ≤ i) × (i < high)
+  pub all : (s i : ℕ) → looks_up ws n k s ≡ Some i → (low ≤ i) × (i < high)
 
 -- ---- a table of node 0's constant edges: for each symbol one word
 
 -- the row that a word names
-abbrev pub row_named : ℕ → Found
-row_named zero = Nothing
-row_named (suc i) = Row i
+abbrev pub row_named : ℕ → Option ℕ
+row_named zero = None
+row_named (suc i) = Some i
 
 -- the words name the rows of the first symbols; an empty table of none
 abbrev pub RootRows : List ℕ → List ℕ → Type 0

@@ -1,44 +1,47 @@
-// Node and edge rows, look-up, reduce lists and the table check.
+// Rows of words: edges, read and written, and the look-up among them. reduce_list.rt has an edge's reduces, check.rt the table check.
 #![tactic(auto)]
 
-ghost use Rattle.std.specs.Prelude.{◌≡◌, true, not, ◌+◌, ◌/◌, ◌%◌, ◌≤◌, ◌<◌, ltb, length, get_or, drop};
-ghost use Rattle.words.specs.Limits.{row_width, most_reduces, most_offset, most_nodes, most_edges};
-ghost use Rattle.rows.specs.Rows.{edge_of, rows_from, edges_of, row_words, below, precedes, rising, keyed, bare, good_nodes, good_pair, root_to_leaf, good_ends, nodes_good, edges_good, tables_good};
-ghost use Rattle.rows.specs.Code.{reduce_is, edge_is, Holds, Adds, row_at, Spells, written, put_in, cleared, place_of, looks_up, mark, Firsts, Tabled, Spans, row_named, RootRows};
+ghost use Rattle.std.specs.Prelude.{◌≡◌, true, not, ◌+◌, ◌/◌, ◌%◌, ◌≤◌, ◌<◌, ltb, length, get_or};
+ghost use Rattle.words.specs.Limits.{row_width, most_reduces, most_nodes, most_edges};
+ghost use Rattle.rows.specs.Rows.{edge_of, rows_from, edges_of, row_words, rising, bare};
+ghost use Rattle.rows.specs.Code.{reduce_is, key_of, edge_is, Holds, row_at, Spells, written, put_in, cleared, place_of, looks_up, mark, Firsts, Tabled, Spans, row_named, RootRows};
 ghost use Rattle.rules.specs.Every.{All};
 
-// An edge's places for reduces.
-const PLACES: usize = words::MOST_REDUCES as usize;
+mod check;
+mod reduce_list;
 
-// A rule, reduced under the top `offset` trees.
-#[derive(Clone, Copy)]
-pub struct Reduce {
-    pub rule: words::RuleNo,
-    pub offset: u32,
-}
+pub use check::tables_good;
+use reduce_list::PLACES;
+pub use reduce_list::{Reduce, Reduces};
 
-// An edge by value. Of its places the first `count` are its reduces; the others hold anything.
-#[derive(Clone, Copy)]
-pub struct Edge {
+// What a row is found by: the node that it leaves, its kind and its symbol. Rows stand in the order of their keys. The kind is a word and no
+// enum: a row is whatever a caller wrote, and only checked tables have the kinds that there are.
+#[derive(Clone, Copy, PartialEq, Eq, PartialOrd, Ord)]
+pub struct Key {
     pub from: words::NodeNo,
     pub kind: u32,
     pub symbol: words::SymbolNo,
+}
+
+impl Key {
+    // The lowest key of this node and kind.
+    pub fn lowest(from: words::NodeNo, kind: u32) -> Key
+        ensures { result ≡ record { from = from; kind = kind; symbol = record { 0 = 0 } } }
+    {
+        Key {
+            from,
+            kind,
+            symbol: words::SymbolNo(0),
+        }
+    }
+}
+
+// An edge by value.
+#[derive(Clone, Copy)]
+pub struct Edge {
+    pub key: Key,
     pub to: words::NodeNo,
-    pub count: u32,
-    pub reduces: [Reduce; PLACES],
-}
-
-// An edge with one reduce more, or as it was where no place is free.
-#[derive(Clone, Copy)]
-pub struct Added {
-    pub ok: bool,
-    pub edge: Edge,
-}
-
-#[derive(Clone, Copy)]
-pub enum Found {
-    Row(usize),
-    Nothing,
+    pub reduces: Reduces,
 }
 
 // The rows from `low` on, up to `high`.
@@ -63,12 +66,33 @@ fn reduce_at(row: &[u32], at: usize) -> Reduce
     }
 }
 
+// The words of row number `row`.
+fn row_at(edges: &[u32], row: usize) -> &[u32]
+    requires { row < length edges.now / row_width }
+    ensures { result.now ≡ row_at edges.now row }
+{
+    let at = words::ROW_WIDTH * row;
+    &edges[at..at + words::ROW_WIDTH]
+}
+
+// The key that a row says.
+fn key_of(row: &[u32]) -> Key
+    requires { length row.now ≡ row_width }
+    ensures { result ≡ key_of (edge_of row.now) }
+{
+    Key {
+        from: words::NodeNo(row[0]),
+        kind: row[1],
+        symbol: words::SymbolNo(row[2]),
+    }
+}
+
 // The edge that a row says.
 fn read_edge(row: &[u32]) -> Edge
     requires { (length row.now ≡ row_width) × (length (edge_of row.now).reduces ≤ most_reduces) }
     ensures { Holds result (edge_of row.now) }
 {
-    let reduces = [
+    let items = [
         reduce_at(row, 5),
         reduce_at(row, 7),
         reduce_at(row, 9),
@@ -76,12 +100,12 @@ fn read_edge(row: &[u32]) -> Edge
         reduce_at(row, 13),
     ];
     Edge {
-        from: words::NodeNo(row[0]),
-        kind: row[1],
-        symbol: words::SymbolNo(row[2]),
+        key: key_of(row),
         to: words::NodeNo(row[3]),
-        count: row[4],
-        reduces,
+        reduces: Reduces {
+            count: row[4],
+            items,
+        },
     }
 }
 
@@ -90,8 +114,7 @@ pub fn read_row(edges: &[u32], row: usize) -> Edge
     requires { (row < length edges.now / row_width) × (length (edge_of (row_at edges.now row)).reduces ≤ most_reduces) }
     ensures { Holds result (edge_of (row_at edges.now row)) }
 {
-    let at = words::ROW_WIDTH * row;
-    read_edge(&edges[at..at + words::ROW_WIDTH])
+    read_edge(row_at(edges, row))
 }
 
 // Where a row leads.
@@ -110,44 +133,27 @@ pub fn has_reduces(edges: &[u32], row: usize) -> bool
     0 < edges[words::ROW_WIDTH * row + 4]
 }
 
-// The reduce at place `k`; zeros where the edge has none there.
-pub fn reduce_of(e: Edge, k: usize) -> Reduce
-    requires { k < most_reduces }
-    ensures { reduce_is result ≡ get_or (edge_is e).reduces k (record { rule = 0; offset = 0 }) }
-{
-    let count = e.count;
-    if (k as u32) < count {
-        return e.reduces[k];
-    }
-    Reduce {
-        rule: words::RuleNo(0),
-        offset: 0,
-    }
-}
-
 // The words of an edge, in a row.
 fn write_row(row: &mut [u32], e: Edge)
-    requires { (length row.old ≡ row_width) × (e.count ≤ most_reduces) }
+    requires { length row.old ≡ row_width }
     ensures { row.new ≡ row_words (edge_is e) }
 {
-    row[0] = e.from.0;
-    row[1] = e.kind;
-    row[2] = e.symbol.0;
+    row[0] = e.key.from.0;
+    row[1] = e.key.kind;
+    row[2] = e.key.symbol.0;
     row[3] = e.to.0;
-    row[4] = e.count;
-    let mut k: usize = 0;
-    while k < PLACES {
-        let r = reduce_of(e, k);
+    row[4] = e.reduces.count;
+    for k in 0..PLACES {
+        let r = e.reduces.get(k);
         row[5 + 2 * k] = r.rule.0;
         row[6 + 2 * k] = r.offset;
-        k += 1;
     }
     row[15] = 0;
 }
 
 // Row number `row` of the table, written.
 pub fn write_edge(edges: &mut [u32], row: usize, e: Edge)
-    requires { (row < length edges.old / row_width) × (e.count ≤ most_reduces) }
+    requires { row < length edges.old / row_width }
     ensures { edges.new ≡ written edges.old row (edge_is e) }
 {
     let at = words::ROW_WIDTH * row;
@@ -156,7 +162,7 @@ pub fn write_edge(edges: &mut [u32], row: usize, e: Edge)
 
 // A row for `e` before row number `row` of the first `count`, which move up by one from there on.
 pub fn insert_edge(edges: &mut [u32], row: usize, count: usize, e: Edge)
-    requires { (row ≤ count) × (count < length edges.old / row_width) × (e.count ≤ most_reduces) }
+    requires { (row ≤ count) × (count < length edges.old / row_width) }
     ensures { edges.new ≡ put_in edges.old row count (edge_is e) }
 {
     words::move_up(
@@ -173,89 +179,23 @@ pub fn clear_last(edges: &mut [u32], count: usize)
     requires { (count ≤ length edges.old / row_width) × All Spells (rows_from count edges.old) }
     ensures { edges.new ≡ cleared edges.old count }
 {
-    let mut row = 0;
-    while row < count {
+    for row in 0..count {
         edges[words::ROW_WIDTH * row + 15] = 0;
-        row += 1;
     }
-}
-
-// ---- reduce lists
-
-// The edge with `r` before its other reduces.
-pub fn with_reduce(e: Edge, r: Reduce) -> Added
-    ensures { Adds e (reduce_is r) result }
-{
-    let n = e.count;
-    if words::MOST_REDUCES <= n {
-        return Added { ok: false, edge: e };
-    }
-    let mut out = e;
-    let mut k = PLACES - 1;
-    while 0 < k {
-        let moved = out.reduces[k - 1];
-        out.reduces[k] = moved;
-        k -= 1;
-    }
-    out.reduces[0] = r;
-    out.count = n + 1;
-    Added {
-        ok: true,
-        edge: out,
-    }
-}
-
-// The same, with the reduce under one tree more.
-pub fn with_offset_reduce(e: Edge, r: Reduce) -> Added
-    requires { r.offset < most_offset }
-    ensures { Adds e (record { rule = r.rule.0; offset = r.offset + 1 }) result }
-{
-    let mut raised = r;
-    raised.offset = r.offset + 1;
-    with_reduce(e, raised)
 }
 
 // ---- the look-up
 
-// Whether a row has this key.
-fn row_is(row: &[u32], from: words::NodeNo, kind: u32, symbol: words::SymbolNo) -> bool
-    requires { length row.now ≡ row_width }
-    ensures { result ≡ keyed from.0 kind symbol.0 (edge_of row.now) }
-{
-    if row[0] != from.0 {
-        return false;
-    }
-    if row[1] != kind {
-        return false;
-    }
-    row[2] == symbol.0
-}
-
-// Whether a row is lower than this key.
-fn row_below(row: &[u32], from: words::NodeNo, kind: u32, symbol: words::SymbolNo) -> bool
-    requires { length row.now ≡ row_width }
-    ensures { result ≡ below from.0 kind symbol.0 (edge_of row.now) }
-{
-    if row[0] != from.0 {
-        return row[0] < from.0;
-    }
-    if row[1] != kind {
-        return row[1] < kind;
-    }
-    row[2] < symbol.0
-}
-
 // How many rows are lower than this key: where its row stands, or would stand. Found by halving.
-pub fn place_of(edges: &[u32], from: words::NodeNo, kind: u32, symbol: words::SymbolNo) -> usize
+pub fn place_of(edges: &[u32], key: Key) -> usize
     requires { rising (edges_of edges.now) ≡ true }
-    ensures { result ≡ place_of from.0 kind symbol.0 (edges_of edges.now) }
+    ensures { result ≡ place_of key.from.0 key.kind key.symbol.0 (edges_of edges.now) }
 {
     let mut low = 0;
     let mut high = edges.len() / words::ROW_WIDTH;
     while low < high {
         let half = low + (high - low) / 2;
-        let at = words::ROW_WIDTH * half;
-        if row_below(&edges[at..at + words::ROW_WIDTH], from, kind, symbol) {
+        if key_of(row_at(edges, half)) < key {
             low = half + 1;
         } else {
             high = half;
@@ -264,20 +204,15 @@ pub fn place_of(edges: &[u32], from: words::NodeNo, kind: u32, symbol: words::Sy
     low
 }
 
-// The row with this key.
-pub fn look_up(edges: &[u32], from: words::NodeNo, kind: u32, symbol: words::SymbolNo) -> Found
+// The row with this key, looked for among all. With an index few nodes need it, so it stays out of line.
+#[inline(never)]
+pub fn look_up(edges: &[u32], key: Key) -> Option<usize>
     requires { rising (edges_of edges.now) ≡ true }
-    ensures { result ≡ looks_up edges.now from.0 kind symbol.0 }
+    ensures { result ≡ looks_up edges.now key.from.0 key.kind key.symbol.0 }
 {
-    let row = place_of(edges, from, kind, symbol);
-    if edges.len() / words::ROW_WIDTH <= row {
-        return Found::Nothing;
-    }
-    let at = words::ROW_WIDTH * row;
-    if row_is(&edges[at..at + words::ROW_WIDTH], from, kind, symbol) {
-        return Found::Row(row);
-    }
-    Found::Nothing
+    let row = place_of(edges, key);
+    let found = row < edges.len() / words::ROW_WIDTH && key_of(row_at(edges, row)) == key;
+    found.then_some(row)
 }
 
 // Whether any row leaves this node, looked for among all.
@@ -285,29 +220,22 @@ fn leaves_any(edges: &[u32], from: words::NodeNo) -> bool
     requires { rising (edges_of edges.now) ≡ true }
     ensures { result ≡ not (bare (edges_of edges.now) from.0) }
 {
-    let row = place_of(edges, from, 0, words::SymbolNo(0));
-    if edges.len() / words::ROW_WIDTH <= row {
-        return false;
-    }
-    edges[words::ROW_WIDTH * row] == from.0
+    let row = place_of(edges, Key::lowest(from, 0));
+    row < edges.len() / words::ROW_WIDTH && key_of(row_at(edges, row)).from == from
 }
 
 // ---- the look-up by an index of the nodes' rows
 
-// The first row of node `from`, or where it would stand.
-fn first_row(firsts: &[u32], from: usize) -> usize
+// The rows of node `from`'s constant edges, as the index has them: those of its variable edges come after.
+fn constants_of(firsts: &[u32], from: usize) -> Span
     requires { from < length firsts.now }
-    ensures { result ≡ get_or firsts.now from 0 / mark }
+    ensures { (result.low ≡ get_or firsts.now from 0 / mark) × (result.high ≡ get_or firsts.now from 0 % mark) }
 {
-    (firsts[from] / MARK) as usize
-}
-
-// The first row of its variable edges, likewise.
-fn first_variable(firsts: &[u32], from: usize) -> usize
-    requires { from < length firsts.now }
-    ensures { result ≡ get_or firsts.now from 0 % mark }
-{
-    (firsts[from] % MARK) as usize
+    let word = firsts[from];
+    Span {
+        low: (word / MARK) as usize,
+        high: (word % MARK) as usize,
+    }
 }
 
 // The rows of this node and kind.
@@ -315,75 +243,61 @@ fn span_of(edges: &[u32], firsts: &[u32], from: usize, kind: u32) -> Span
     requires { Tabled edges.now firsts.now × (from + 1 < length firsts.now) × (kind ≤ 1) }
     ensures { Spans edges.now from kind result.low result.high }
 {
-    let variables = first_variable(firsts, from);
+    let constants = constants_of(firsts, from);
     if kind == 0 {
-        return Span {
-            low: first_row(firsts, from),
-            high: variables,
-        };
+        return constants;
     }
+    let after = constants_of(firsts, from + 1);
     Span {
-        low: variables,
-        high: first_row(firsts, from + 1),
+        low: constants.high,
+        high: after.low,
     }
 }
 
 // The row with this key among those of its node and kind, by halving. A half is taken or left by one comparison of symbols, without a jump.
-fn search(
-    edges: &[u32],
-    span: Span,
-    from: words::NodeNo,
-    kind: u32,
-    symbol: words::SymbolNo,
-) -> Found
-    requires { (rising (edges_of edges.now) ≡ true) × Spans edges.now from.0 kind span.low span.high }
-    ensures { result ≡ looks_up edges.now from.0 kind symbol.0 }
+fn search(edges: &[u32], span: Span, key: Key) -> Option<usize>
+    requires { (rising (edges_of edges.now) ≡ true) × Spans edges.now key.from.0 key.kind span.low span.high }
+    ensures { result ≡ looks_up edges.now key.from.0 key.kind key.symbol.0 }
 {
     if span.high <= span.low {
-        return Found::Nothing;
+        return None;
     }
     let mut row = span.low;
     let mut size = span.high - row;
     while 1 < size {
         let half = size / 2;
-        if edges[words::ROW_WIDTH * (row + half) + 2] <= symbol.0 {
+        if edges[words::ROW_WIDTH * (row + half) + 2] <= key.symbol.0 {
             row += half;
         }
         size -= half;
     }
-    if edges[words::ROW_WIDTH * row + 2] != symbol.0 {
-        return Found::Nothing;
+    if edges[words::ROW_WIDTH * row + 2] == key.symbol.0 {
+        Some(row)
+    } else {
+        None
     }
-    Found::Row(row)
 }
 
-// The row with this key: among those of its node and kind, or among all where the index does not have the node.
-pub fn row_of(
-    edges: &[u32],
-    firsts: &[u32],
-    from: words::NodeNo,
-    kind: u32,
-    symbol: words::SymbolNo,
-) -> Found
-    requires { Tabled edges.now firsts.now × (kind ≤ 1) }
-    ensures { result ≡ looks_up edges.now from.0 kind symbol.0 }
+// The row with this key: among those of its node and kind, or among all where the index does not have the node. In line, the kind is known and
+// neither the key nor the answer goes through memory.
+#[inline(always)]
+pub fn row_of(edges: &[u32], firsts: &[u32], key: Key) -> Option<usize>
+    requires { Tabled edges.now firsts.now × (key.kind ≤ 1) }
+    ensures { result ≡ looks_up edges.now key.from.0 key.kind key.symbol.0 }
 {
-    let node = from.0 as usize;
+    let node = key.from.0 as usize;
     if firsts.len() <= node + 1 {
-        return look_up(edges, from, kind, symbol);
+        return look_up(edges, key);
     }
-    let span = span_of(edges, firsts, node, kind);
-    search(edges, span, from, kind, symbol)
+    let span = span_of(edges, firsts, node, key.kind);
+    search(edges, span, key)
 }
 
 // The row that a word of a table of symbols names: its number and one, or 0 for none.
-fn row_named(word: u32) -> Found
+fn row_named(word: u32) -> Option<usize>
     ensures { result ≡ row_named word }
 {
-    if word == 0 {
-        return Found::Nothing;
-    }
-    Found::Row((word - 1) as usize)
+    (word as usize).checked_sub(1)
 }
 
 // The constant edge with this key. Node 0 has most of them and is asked most: its row is in the table, as far as that goes.
@@ -393,17 +307,20 @@ pub fn constant_row(
     roots: &[u32],
     from: words::NodeNo,
     symbol: words::SymbolNo,
-) -> Found
+) -> Option<usize>
     requires { Tabled edges.now firsts.now × RootRows edges.now roots.now }
     ensures { result ≡ looks_up edges.now from.0 0 symbol.0 }
 {
     let t = symbol.0 as usize;
-    if from.0 == 0 {
-        if t < roots.len() {
-            return row_named(roots[t]);
-        }
+    if from.0 == 0 && t < roots.len() {
+        return row_named(roots[t]);
     }
-    row_of(edges, firsts, from, 0, symbol)
+    let key = Key {
+        from,
+        kind: 0,
+        symbol,
+    };
+    row_of(edges, firsts, key)
 }
 
 // Whether any row leaves this node.
@@ -415,7 +332,7 @@ pub fn leaves(edges: &[u32], firsts: &[u32], from: words::NodeNo) -> bool
     if firsts.len() <= node + 1 {
         return leaves_any(edges, from);
     }
-    first_row(firsts, node) < first_row(firsts, node + 1)
+    constants_of(firsts, node).low < constants_of(firsts, node + 1).low
 }
 
 // The first row from `row` on that is not lower than those of this node and kind.
@@ -424,217 +341,43 @@ fn past(edges: &[u32], row: usize, from: words::NodeNo, kind: u32) -> usize
     ensures { result ≡ place_of from.0 kind 0 (edges_of edges.now) }
 {
     let n = edges.len() / words::ROW_WIDTH;
-    let mut i = row;
-    while i < n {
-        let at = words::ROW_WIDTH * i;
-        if !row_below(
-            &edges[at..at + words::ROW_WIDTH],
-            from,
-            kind,
-            words::SymbolNo(0),
-        ) {
+    let lowest = Key::lowest(from, kind);
+    for i in row..n {
+        if key_of(row_at(edges, i)) >= lowest {
             return i;
         }
-        i += 1;
     }
     n
 }
 
 // The index of the rows, a word for each node and one more: once over all rows.
+#[tactic(auto, using(crate::proofs::Laws::place_in))]
 pub fn index_rows(edges: &[u32], firsts: &mut [u32])
     requires { (rising (edges_of edges.now) ≡ true) × (length edges.now / row_width ≤ most_edges) × (length firsts.old ≤ most_nodes + 1) }
     ensures { Firsts edges.now firsts.new × (length firsts.new ≡ length firsts.old) }
 {
-    let mut node: u32 = 0;
     let mut row = 0;
-    while (node as usize) < firsts.len() {
-        let from = words::NodeNo(node);
+    for (node, word) in firsts.iter_mut().enumerate() {
+        let from = words::NodeNo(node as u32);
         let first = past(edges, row, from, 0);
         row = past(edges, first, from, 1);
-        firsts[node as usize] = (first as u32) * MARK + row as u32;
-        node += 1;
+        *word = (first as u32) * MARK + row as u32;
     }
 }
 
 // The table of node 0's constant edges, a word for each symbol below its length.
+#[tactic(auto, using(crate::proofs::Laws::place_in))]
 pub fn index_roots(edges: &[u32], roots: &mut [u32])
     requires { (rising (edges_of edges.now) ≡ true) × (length edges.now / row_width ≤ most_edges) }
     ensures { RootRows edges.now roots.new × (length roots.new ≡ length roots.old) }
 {
-    words::clear(roots);
+    roots.fill(0);
     let low = past(edges, 0, words::NodeNo(0), 0);
     let high = past(edges, low, words::NodeNo(0), 1);
-    let mut row = low;
-    while row < high {
+    for row in low..high {
         let t = edges[words::ROW_WIDTH * row + 2] as usize;
-        row += 1;
         if t < roots.len() {
-            roots[t] = row as u32;
+            roots[t] = row as u32 + 1;
         }
     }
-}
-
-// ---- the table check
-
-// Whether each node is a branch or the leaf of a rule that there is.
-fn good_nodes(rules: u32, nodes: &[u32]) -> bool
-    ensures { result ≡ good_nodes rules nodes.now }
-{
-    let mut i = 0;
-    while i < nodes.len() {
-        if rules < nodes[i] {
-            return false;
-        }
-        i += 1;
-    }
-    true
-}
-
-fn nodes_good(rules: u32, nodes: &[u32]) -> bool
-    ensures { result ≡ nodes_good rules nodes.now }
-{
-    if nodes.len() < 1 {
-        return false;
-    }
-    if words::MOST_NODES < nodes.len() {
-        return false;
-    }
-    if nodes[0] != 0 {
-        return false;
-    }
-    good_nodes(rules, nodes)
-}
-
-// Whether pair number `k` of a row is good: a rule that there is and an offset, or zeros.
-fn good_pair(rules: u32, k: u32, count: u32, rule: words::RuleNo, offset: u32) -> bool
-    ensures { result ≡ good_pair rules k count rule.0 offset }
-{
-    if k < count {
-        if rule.0 < 1 {
-            return false;
-        }
-        if rules < rule.0 {
-            return false;
-        }
-        return offset <= words::MOST_OFFSET;
-    }
-    if rule.0 != 0 {
-        return false;
-    }
-    offset == 0
-}
-
-// Whether a row is a variable edge of node 0 that leads to a leaf.
-fn root_to_leaf(nodes: &[u32], row: &[u32]) -> bool
-    requires { (length row.now ≡ row_width) × (get_or row.now 3 0 < length nodes.now) }
-    ensures { result ≡ root_to_leaf nodes.now row.now }
-{
-    if row[0] != 0 {
-        return false;
-    }
-    if row[1] != 1 {
-        return false;
-    }
-    let to = row[3];
-    nodes[to as usize] != 0
-}
-
-// Whether a row's words but for its pairs are good.
-fn good_ends(nodes: &[u32], row: &[u32]) -> bool
-    requires { length row.now ≡ row_width }
-    ensures { result ≡ good_ends nodes.now row.now }
-{
-    let from = row[0];
-    let to = row[3];
-    if nodes.len() <= (from as usize) {
-        return false;
-    }
-    if nodes[from as usize] != 0 {
-        return false;
-    }
-    if 1 < row[1] {
-        return false;
-    }
-    if !rules::symbol(row[2]) {
-        return false;
-    }
-    if to == 0 {
-        return false;
-    }
-    if nodes.len() <= (to as usize) {
-        return false;
-    }
-    if root_to_leaf(nodes, row) {
-        return false;
-    }
-    if words::MOST_REDUCES < row[4] {
-        return false;
-    }
-    row[15] == 0
-}
-
-// Whether row number `row` is lower than the next, if there is one.
-fn precedes(edges: &[u32], row: usize) -> bool
-    requires { row < length edges.now / row_width }
-    ensures { result ≡ precedes (edge_of (row_at edges.now row)) (drop (row + 1) (edges_of edges.now)) }
-{
-    if edges.len() / words::ROW_WIDTH <= row + 1 {
-        return true;
-    }
-    let at = words::ROW_WIDTH * row;
-    let next = at + words::ROW_WIDTH;
-    row_below(
-        &edges[at..next],
-        words::NodeNo(edges[next]),
-        edges[next + 1],
-        words::SymbolNo(edges[next + 2]),
-    )
-}
-
-// Whether every row is good and they rise. The first bad word ends the scan.
-fn edges_good(rules: u32, nodes: &[u32], edges: &[u32]) -> bool
-    ensures { result ≡ edges_good rules nodes.now edges.now }
-{
-    if edges.len() % words::ROW_WIDTH != 0 {
-        return false;
-    }
-    let n = edges.len() / words::ROW_WIDTH;
-    if words::MOST_EDGES < n {
-        return false;
-    }
-    let mut ok = true;
-    let mut row = 0;
-    'rows: while row < n {
-        let at = words::ROW_WIDTH * row;
-        if !good_ends(nodes, &edges[at..at + words::ROW_WIDTH]) {
-            ok = false;
-            break 'rows;
-        }
-        if !precedes(edges, row) {
-            ok = false;
-            break 'rows;
-        }
-        let count = edges[at + 4];
-        let mut k: u32 = 0;
-        while k < words::MOST_REDUCES {
-            let p = at + 5 + 2 * (k as usize);
-            if !good_pair(rules, k, count, words::RuleNo(edges[p]), edges[p + 1]) {
-                ok = false;
-                break 'rows;
-            }
-            k += 1;
-        }
-        row += 1;
-    }
-    ok
-}
-
-// Whether the tables are good for so many rules.
-pub fn tables_good(rules: u32, nodes: &[u32], edges: &[u32]) -> bool
-    ensures { result ≡ tables_good rules nodes.now edges.now }
-{
-    if !nodes_good(rules, nodes) {
-        return false;
-    }
-    edges_good(rules, nodes, edges)
 }

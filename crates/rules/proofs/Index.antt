@@ -9,10 +9,12 @@ use lib.Dec.{eqb}
 use lib.ListN.{length, get_or, set, drop}
 use lib.Seq.{get_or-set_same, get_or-set_other}
 use borrow.Author.Tests.{eqb-true, eqb-false}
-use Rattle.rules.specs.Rules.{Rule, Item, con, slot, slots, size_of, rule_of, good_rule, good_rules}
+use Rattle.rules.specs.Rules.{Rule, the_rules, Item, con, slot, slots, size_of, rule_of, good_rule, good_rules}
+use Rattle.std.proofs.Common.{◌⊎◌, inl, inr}
+use Rattle.std.proofs.lemmas.Bool.{cases_lt}
 use Rattle.words.specs.Limits.{most_rules}
 use Rattle.rules.specs.Code.{Starts, mark, Marks, Indexed}
-use Rattle.rules.proofs.Theorems.Words.{Here, ahead-here, body-count}
+use Rattle.rules.proofs.Theorems.Words.{Here, ahead-here, ahead-end, body-count}
 use Rattle.rules.proofs.Laws.{Search, search-start, search-found, search-next}
 
 -- ---- what it says
@@ -82,3 +84,11 @@ module _ (ws : List ℕ) (n i : ℕ) (is : List ℕ) (g : Marking ws n i is) (b 
       by m q false t =
           let f = eqb-false m n t in
           rw (get_or-set_other is n m (i * mark + k) 0 f) (g.marks m (omega (arith, f)))
+
+-- where a rule is left to be marked, words are left
+pub marking-inside : (ws : List ℕ) (n i : ℕ) (is : List ℕ) → Marking ws n i is → n < length (the_rules ws) → i < length ws
+marking-inside ws n i is g h = by (cases_lt i (length ws))
+  where
+    by : (i < length ws) ⊎ (length ws ≤ i) → i < length ws
+    by (inl b) = b
+    by (inr b) = absurd (let e = ahead-end ws i n (g.searches (n + 1) (omega arith)).ahead b in omega (arith, e))

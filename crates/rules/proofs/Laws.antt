@@ -1,6 +1,6 @@
 -- What the proofs of this crate's functions share.
 use mathlib.Core.Path.{◌≡◌, refl, sym, subst, ◌∙◌}
-use mathlib.Core.Bool.{Bool, true, false}
+use mathlib.Core.Bool.{true}
 use mathlib.Core.List.{List, [], ◌∷◌}
 use Prim.Native.Nat.{ℕ, zero, suc, ◌+◌, ◌-◌, ◌≤◌, ◌<◌}
 use native.Mathlib.Omega.{arith}
@@ -8,31 +8,10 @@ use native.Mathlib.Nat.{sub-zero, sub-add-eq}
 use lib.ListN.{length, take, drop, drop_of_length-le}
 use lib.Seq.{drop-cons, drop-drop}
 use Rattle.words.specs.Limits.{most_rules}
-use Rattle.words.specs.Outcome.{pick}
 use Rattle.words.proofs.Theorems.Parts.{part-all}
-use Rattle.rules.specs.Rules.{size_of, rest_of, the_rules, good_rule, good_rules, no_stretch, stretch_from}
-use Rattle.rules.specs.Code.{first_rule, Starts, Missing}
+use Rattle.rules.specs.Rules.{size_of, rest_of, the_rules, good_rules, no_stretch, stretch_from}
+use Rattle.rules.specs.Code.{Starts, Missing}
 use Rattle.rules.proofs.Theorems.Words.{Ahead, Here, ahead-start, ahead-here, ahead-end, rule-past, rules-most}
-use Rattle.rules.specs.declared.First.{First}
-use Rattle.rules.specs.declared.First.TheVariants.{Size, Bad}
-
--- ---- what the answer of `good_rule` says
-
-picked-bad : (b : Bool) (n : ℕ) {r : First} → r ≡ pick b (Size n) Bad → r ≡ Bad → b ≡ false
-picked-bad true n e h = absurd (let z : ◌≡◌ {A = ℕ} 0 1 = cc in omega arith)
-picked-bad false n e h = refl
-
-picked-size : (b : Bool) (n m : ℕ) {r : First} → r ≡ pick b (Size n) Bad → r ≡ Size m → (b ≡ true) × (m ≡ n)
-picked-size true n m e h = (refl, cc)
-picked-size false n m e h = absurd (let z : ◌≡◌ {A = ℕ} 0 1 = cc in omega arith)
-
-module _ (p : ℕ) (ws : List ℕ) (i : ℕ) where
-  pub part-bad : {r : First} → r ≡ first_rule p (take (length ws - i) (drop i ws)) → r ≡ Bad → good_rule p (drop i ws) ≡ false
-  part-bad e h = picked-bad _ (size_of (drop i ws)) (rw (part-all ws i) at e) h
-
-  pub part-size : {r : First} {n : ℕ} → r ≡ first_rule p (take (length ws - i) (drop i ws)) → r ≡ Size n
-      → (good_rule p (drop i ws) ≡ true) × (n ≡ size_of (drop i ws))
-  part-size {n = n} e h = picked-size _ (size_of (drop i ws)) n (rw (part-all ws i) at e) h
 
 -- the size of a rule in the middle of a slice
 pub part-size-of : (ws : List ℕ) (i : ℕ) {r : ℕ} → r ≡ size_of (take (length ws - i) (drop i ws)) → r ≡ size_of (drop i ws)

@@ -1,25 +1,16 @@
 -- What the code's own types stand for, in the terms of the definitions.
-use Rattle.std.specs.Prelude.{ℕ, ◌+◌, ◌*◌, ◌-◌, ◌/◌, ◌%◌, ◌≤◌, ◌<◌, ◌≡◌, Bool, true, List, length, get_or, drop}
-use Rattle.std.proofs.Math.Option.{Option, none, some}
+use Rattle.std.specs.Prelude.{ℕ, zero, suc, ◌+◌, ◌*◌, ◌-◌, ◌/◌, ◌%◌, ◌≤◌, ◌<◌, ◌≡◌, Bool, true, Option, Some, None, List, slice_get, length, get_or, drop}
+use Rattle.std.proofs.Math.Option as math
 use Rattle.std.specs.Borrow.{Bor}
 use Rattle.words.specs.Limits.{most_rules}
 use Rattle.words.specs.Outcome.{pick}
 use Rattle.words.specs.declared.RuleNo.{RuleNo}
+use Rattle.words.specs.declared.SymbolNo.{SymbolNo}
 use Rattle.rules.specs.Rules.{Item, con, slot, slots, size_of, the_rules, rule_of, rule_at, good_rule, good_rules, rules_good, Stretch, no_stretch, stretch_from, cut}
 use Rattle.rules.specs.declared.Codes.{Codes}
-use Rattle.rules.specs.declared.First.{First}
-use Rattle.rules.specs.declared.First.TheVariants.{Size, Bad}
-use Rattle.rules.specs.declared.Start.{Start}
-use Rattle.rules.specs.declared.Start.TheVariants.{At, Nothing}
 use Rattle.rules.specs.declared.Item as coded
 use Rattle.rules.specs.declared.Item.TheVariants.{Con, Slot}
-use Rattle.rules.specs.declared.Conversion.{Conversion}
-use Rattle.rules.specs.declared.Conversion.TheVariants.{From, No}
 use Rattle.rules.specs.declared.Stretch as declared
-
--- the words of a good rule that stands first, or `Bad`
-abbrev pub first_rule : ℕ → List ℕ → First
-first_rule p ws = pick (good_rule p ws) (Size (size_of ws)) Bad
 
 -- good for some provable typecode: no result is 0, so none is equal to it
 abbrev pub a_rule : List ℕ → Bool
@@ -30,19 +21,19 @@ some_rules ws = good_rules 0 most_rules ws
 
 -- rule n starts at word i, within the words, and its body's stretch stands there
 pub record Starts (ws : List ℕ) (n i : ℕ) : Type 0 where
-  pub named : rule_at (the_rules ws) n ≡ some (rule_of (drop i ws))
+  pub named : rule_at (the_rules ws) n ≡ math.some (rule_of (drop i ws))
   pub good : a_rule (drop i ws) ≡ true
   pub fits : i + size_of (drop i ws) ≤ length ws
   pub stretched : stretch_from most_rules 0 ws n ≡ record { start = i + 2; length = size_of (drop i ws) - 2 }
 
 pub record Missing (ws : List ℕ) (n : ℕ) : Type 0 where
-  pub unnamed : rule_at (the_rules ws) n ≡ none
+  pub unnamed : rule_at (the_rules ws) n ≡ math.none
   pub unstretched : stretch_from most_rules 0 ws n ≡ no_stretch
 
 -- where rule n starts
-abbrev pub Found : List ℕ → ℕ → Start → Type 0
-Found ws n (At i) = Starts ws n i
-Found ws n Nothing = Missing ws n
+abbrev pub Found : List ℕ → ℕ → Option ℕ → Type 0
+Found ws n (Some i) = Starts ws n i
+Found ws n None = Missing ws n
 
 -- ---- an index: for each rule one word, where it starts and how many slots it has
 
@@ -59,6 +50,11 @@ pub record Marks (ws : List ℕ) (n w : ℕ) : Type 0 where
 abbrev pub Indexed : List ℕ → List ℕ → Type 0
 Indexed ws is = (n : ℕ) → n < length is → Marks ws (n + 1) (get_or is n 0)
 
+-- the word of an index for rule n
+abbrev pub marked : List ℕ → ℕ → Option ℕ
+marked is zero = None
+marked is (suc n) = slice_get is n
+
 -- good rules with an index, which may be empty
 pub record Ruled (ws is : List ℕ) : Type 0 where
   pub good : some_rules ws ≡ true
@@ -70,9 +66,9 @@ item_is (Con c) = con c.0
 item_is (Slot t) = slot t.0
 
 -- a conversion's source
-abbrev pub source_of : Conversion → Option ℕ
-source_of (From t) = some t.0
-source_of No = none
+abbrev pub source_of : Option SymbolNo → math.Option ℕ
+source_of (Some t) = math.some t.0
+source_of None = math.none
 
 abbrev pub stretch_of : declared.Stretch → Stretch
 stretch_of s = record { start = s.start; length = s.length }

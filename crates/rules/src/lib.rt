@@ -1,12 +1,16 @@
 // Rules as a slice of words: the rule check, where a rule starts, and what stands there.
 #![tactic(auto)]
 
-ghost use Rattle.std.specs.Prelude.{◌≡◌, true, ◌+◌, ◌*◌, ◌≤◌, ◌<◌, length, drop};
+ghost use Rattle.std.specs.Prelude.{◌≡◌, true, not, ltb, ◌&&◌, ◌+◌, ◌*◌, ◌≤◌, ◌<◌, length, drop};
 ghost use Rattle.std.proofs.Math.Option.{some};
 ghost use Rattle.std.proofs.Math.ListN.{get_elem?};
 ghost use Rattle.words.specs.Limits.{most_items, most_rules};
-ghost use Rattle.rules.specs.Rules.{item_width, size_of, body_words, items_of, variables, the_rules, rule_of, slots, source, symbol, third, good_items, absent, distinct, good_body, good_head, equal_ends, good_rules, rules_good, cut};
-ghost use Rattle.rules.specs.Code.{first_rule, a_rule, some_rules, Starts, Found, Indexed, Ruled, item_is, source_of, stretch_of, body_in, PartOf};
+ghost use Rattle.rules.specs.Rules.{item_width, size_of, rest_of, body_words, items_of, variables, the_rules, rule_of, slots, source, symbol, third, good_items, absent, distinct, good_body, good_head, equal_ends, good_rule, good_rules, rules_good, cut};
+ghost use Rattle.rules.specs.Code.{marked, a_rule, some_rules, Starts, Found, Indexed, Ruled, item_is, source_of, stretch_of, body_in, PartOf};
+
+mod order;
+
+pub use order::{Rules, each};
 
 // The words of an item: its kind, its symbol and its variable.
 pub const ITEM_WIDTH: usize = 3;
@@ -21,32 +25,11 @@ pub struct Codes {
     pub logic: words::SymbolNo,
 }
 
-// What stands first in a slice of rules: a good rule of so many words, or none.
-#[derive(Clone, Copy)]
-pub enum First {
-    Size(usize),
-    Bad,
-}
-
-// The word at which a rule starts.
-#[derive(Clone, Copy)]
-pub enum Start {
-    At(usize),
-    Nothing,
-}
-
 // One place of a body.
 #[derive(Clone, Copy)]
 pub enum Item {
     Con(words::SymbolNo),
     Slot(words::SymbolNo),
-}
-
-// The typecode that a conversion goes from.
-#[derive(Clone, Copy)]
-pub enum Conversion {
-    From(words::SymbolNo),
-    No,
 }
 
 // A part of the rule slice.
@@ -60,47 +43,44 @@ pub struct Stretch {
 // ---- the rule check
 
 // Whether a word is a symbol, a typecode or a variable.
+#[tactic(auto, unfolding(crate::specs::Rules::symbol))]
 pub fn symbol(x: u32) -> bool
     ensures { result ≡ symbol x }
 {
-    if x < 1 {
-        return false;
-    }
-    x <= words::MOST_SYMBOL
+    1 <= x && x <= words::MOST_SYMBOL
 }
 
 // Whether an item of this kind may have this third word: a slot has a variable, a constant has none.
+#[tactic(auto, unfolding(crate::specs::Rules::third))]
 fn third(kind: u32, variable: u32) -> bool
     ensures { result ≡ third kind variable }
 {
     if kind == 0 {
-        return variable == 0;
+        variable == 0
+    } else {
+        symbol(variable)
     }
-    symbol(variable)
+}
+
+// Whether an item may have these three words.
+fn good_item(kind: u32, name: u32, variable: u32) -> bool
+    ensures { result ≡ not (ltb 1 kind) && symbol name && third kind variable }
+{
+    kind <= 1 && symbol(name) && third(kind, variable)
 }
 
 // Whether a body is whole items, each of a kind that there is, with a symbol and with a variable if it is a slot.
 fn good_items(body: &[u32]) -> bool
     ensures { result ≡ good_items body.now }
 {
-    let mut i = 0;
-    while i < body.len() {
-        if body.len() - i < ITEM_WIDTH {
+    let mut rest = body;
+    while let Some(([kind, name, variable], others)) = rest.split_first_chunk::<ITEM_WIDTH>() {
+        if !good_item(*kind, *name, *variable) {
             return false;
         }
-        let kind = body[i];
-        if 1 < kind {
-            return false;
-        }
-        if !symbol(body[i + 1]) {
-            return false;
-        }
-        if !third(kind, body[i + 2]) {
-            return false;
-        }
-        i += ITEM_WIDTH;
+        rest = others;
     }
-    true
+    rest.is_empty()
 }
 
 // Whether no slot among these items has this variable. A constant's third word is 0, so it is none.
@@ -108,12 +88,12 @@ fn absent(items: &[u32], variable: u32) -> bool
     requires { (good_items items.now ≡ true) × (symbol variable ≡ true) }
     ensures { result ≡ absent variable (variables items.now) }
 {
-    let mut i = 0;
-    while i < items.len() {
-        if items[i + 2] == variable {
+    let mut rest = items;
+    while let Some(([_, _, other], others)) = rest.split_first_chunk::<ITEM_WIDTH>() {
+        if *other == variable {
             return false;
         }
-        i += ITEM_WIDTH;
+        rest = others;
     }
     true
 }
@@ -123,43 +103,30 @@ fn distinct(items: &[u32]) -> bool
     requires { good_items items.now ≡ true }
     ensures { result ≡ distinct (variables items.now) }
 {
-    let mut i = 0;
-    while i < items.len() {
-        let next = i + ITEM_WIDTH;
-        if items[i] == 1 {
-            if !absent(&items[next..], items[i + 2]) {
-                return false;
-            }
+    let mut rest = items;
+    while let Some(([kind, _, variable], others)) = rest.split_first_chunk::<ITEM_WIDTH>() {
+        if *kind == 1 && !absent(others, *variable) {
+            return false;
         }
-        i = next;
+        rest = others;
     }
     true
 }
 
 // Whether a body's items are good and no two slots have one variable.
+#[tactic(auto, unfolding(crate::specs::Rules::good_body))]
 fn good_body(body: &[u32]) -> bool
     ensures { result ≡ good_body body.now }
 {
-    if !good_items(body) {
-        return false;
-    }
-    distinct(body)
+    good_items(body) && distinct(body)
 }
 
 // Whether a rule may have this result and so many items.
+#[tactic(auto, unfolding(crate::specs::Rules::good_head))]
 fn good_head(provable: words::SymbolNo, res: words::SymbolNo, items: u32) -> bool
     ensures { result ≡ good_head provable.0 res.0 items }
 {
-    if res.0 == provable.0 {
-        return false;
-    }
-    if !symbol(res.0) {
-        return false;
-    }
-    if items < 1 {
-        return false;
-    }
-    items <= words::MOST_ITEMS
+    res != provable && symbol(res.0) && 1 <= items && items <= words::MOST_ITEMS
 }
 
 // The words of the rule that stands first.
@@ -170,78 +137,62 @@ pub fn size_of(s: &[u32]) -> usize
     2 + ITEM_WIDTH * (s[1] as usize)
 }
 
+// What stands after the rule that stands first.
+#[tactic(auto, using(crate::proofs::Tail::whole_first))]
+pub fn rest_of(s: &[u32]) -> &[u32]
+    requires { a_rule s.now ≡ true }
+    ensures { result.now ≡ rest_of s.now }
+{
+    &s[size_of(s)..]
+}
+
 // Whether the rule that stands first turns a typecode into itself.
+#[tactic(auto, unfolding(crate::specs::Rules::equal_ends))]
 fn equal_ends(s: &[u32]) -> bool
     requires { (1 < length s.now) × (size_of s.now ≤ length s.now) }
     ensures { result ≡ equal_ends s.now }
 {
-    if s[1] != 1 {
-        return false;
-    }
-    if s[2] != 1 {
-        return false;
-    }
-    s[3] == s[0]
+    s[1] == 1 && s[2] == 1 && s[3] == s[0]
 }
 
-// The words of the rule that stands first, if it is a good one.
-fn good_rule(s: &[u32], provable: words::SymbolNo) -> First
-    ensures { result ≡ first_rule provable.0 s.now }
+// Whether a good rule stands first.
+#[tactic(auto, unfolding(crate::specs::Rules::good_rule))]
+fn good_rule(s: &[u32], provable: words::SymbolNo) -> bool
+    ensures { result ≡ good_rule provable.0 s.now }
 {
-    if s.len() < 2 {
-        return First::Bad;
-    }
-    if !good_head(provable, words::SymbolNo(s[0]), s[1]) {
-        return First::Bad;
+    if s.len() < 2 || !good_head(provable, words::SymbolNo(s[0]), s[1]) {
+        return false;
     }
     let size = size_of(s);
-    if s.len() < size {
-        return First::Bad;
-    }
-    if !good_body(&s[2..size]) {
-        return First::Bad;
-    }
-    if equal_ends(s) {
-        return First::Bad;
-    }
-    First::Size(size)
+    size <= s.len() && good_body(&s[2..size]) && !equal_ends(s)
 }
 
 // Whether the words are good rules, not too many of them, and no word is left over.
 fn good_rules(rules: &[u32], provable: words::SymbolNo) -> bool
     ensures { result ≡ good_rules provable.0 most_rules rules.now }
 {
-    let mut i = 0;
+    let mut rest = rules;
     let mut left = words::MOST_RULES;
-    while i < rules.len() {
+    while !rest.is_empty() {
         if left == 0 {
             return false;
         }
-        let First::Size(n) = good_rule(&rules[i..], provable) else {
+        if !good_rule(rest, provable) {
             return false;
-        };
-        i += n;
+        }
+        rest = rest_of(rest);
         left -= 1;
     }
     true
 }
 
-// Whether rules and typecodes are good: 10 if not.
+// Whether rules and typecodes are good.
+#[tactic(auto, unfolding(crate::specs::Rules::rules_good))]
 pub fn rules_good(rules: &[u32], codes: Codes) -> bool
     ensures { result ≡ rules_good codes.provable.0 codes.logic.0 rules.now }
 {
-    let p = codes.provable.0;
-    let l = codes.logic.0;
-    if p == l {
-        return false;
-    }
-    if !symbol(p) {
-        return false;
-    }
-    if !symbol(l) {
-        return false;
-    }
-    good_rules(rules, words::SymbolNo(p))
+    let Codes { provable, logic } = codes;
+    provable != logic && symbol(provable.0) && symbol(logic.0) && good_rules(rules, provable)
 }
 
 // ---- rules by number
@@ -251,17 +202,11 @@ pub fn count(rules: &[u32]) -> u32
     requires { some_rules rules.now ≡ true }
     ensures { result ≡ length (the_rules rules.now) }
 {
-    let mut n = 0;
-    let mut at = 0;
-    while at < rules.len() {
-        at += size_of(&rules[at..]);
-        n += 1;
-    }
-    n
+    each(rules).count() as u32
 }
 
-// Where rule `no` starts, reached by stepping over those before it.
-fn step_to(rules: &[u32], no: words::RuleNo) -> Start
+// Where rule `no` starts, reached by stepping over those before it. The word is what is asked for, so words are counted here.
+fn step_to(rules: &[u32], no: words::RuleNo) -> Option<usize>
     requires { some_rules rules.now ≡ true }
     ensures { Found rules.now no.0 result }
 {
@@ -271,25 +216,30 @@ fn step_to(rules: &[u32], no: words::RuleNo) -> Start
     while i < rules.len() {
         n += 1;
         if n == wanted {
-            return Start::At(i);
+            return Some(i);
         }
         i += size_of(&rules[i..]);
     }
-    Start::Nothing
+    None
+}
+
+// The index word of rule `no`, if the index has one.
+fn marked(starts: &[u32], no: words::RuleNo) -> Option<u32>
+    ensures { result ≡ marked starts.now no.0 }
+{
+    let k = (no.0 as usize).checked_sub(1)?;
+    starts.get(k).copied()
 }
 
 // Where rule `no` starts: as the index says, and stepped to where the index has no such rule.
-pub fn find_rule(rules: &[u32], starts: &[u32], no: words::RuleNo) -> Start
+pub fn find_rule(rules: &[u32], starts: &[u32], no: words::RuleNo) -> Option<usize>
     requires { Ruled rules.now starts.now }
     ensures { Found rules.now no.0 result }
 {
-    let n = no.0 as usize;
-    if 0 < n {
-        if n <= starts.len() {
-            return Start::At((starts[n - 1] / MARK) as usize);
-        }
+    match marked(starts, no) {
+        Some(mark) => Some((mark / MARK) as usize),
+        None => step_to(rules, no),
     }
-    step_to(rules, no)
 }
 
 // The slots of rule `no`, which starts at word `i`.
@@ -297,13 +247,10 @@ pub fn slots_at(rules: &[u32], starts: &[u32], no: words::RuleNo, i: usize) -> u
     requires { Ruled rules.now starts.now × Starts rules.now no.0 i }
     ensures { result ≡ slots (rule_of (drop i rules.now)).body }
 {
-    let n = no.0 as usize;
-    if 0 < n {
-        if n <= starts.len() {
-            return starts[n - 1] % MARK;
-        }
+    match marked(starts, no) {
+        Some(mark) => mark % MARK,
+        None => slots_of(&rules[i..]),
     }
-    slots_of(&rules[i..])
 }
 
 // The index of the rules, one word for each.
@@ -311,13 +258,11 @@ pub fn index_rules(rules: &[u32], starts: &mut [u32])
     requires { (some_rules rules.now ≡ true) × (length starts.old ≡ length (the_rules rules.now)) }
     ensures { Indexed rules.now starts.new × (length starts.new ≡ length starts.old) }
 {
-    let mut n = 0;
     let mut at = 0;
-    while at < rules.len() {
-        let slots = slots_of(&rules[at..]);
-        starts[n] = (at as u32) * MARK + slots;
-        at += size_of(&rules[at..]);
-        n += 1;
+    for mark in starts {
+        let rule = &rules[at..];
+        *mark = (at as u32) * MARK + slots_of(rule);
+        at += size_of(rule);
     }
 }
 
@@ -338,9 +283,10 @@ pub fn item_in(body: &[u32], k: usize) -> Item
     let at = ITEM_WIDTH * k;
     let symbol = words::SymbolNo(body[at + 1]);
     if body[at] == 0 {
-        return Item::Con(symbol);
+        Item::Con(symbol)
+    } else {
+        Item::Slot(symbol)
     }
-    Item::Slot(symbol)
 }
 
 // The slots among them.
@@ -348,13 +294,13 @@ fn slots_in(body: &[u32]) -> u32
     requires { (good_items body.now ≡ true) × (length body.now ≤ item_width * most_items) }
     ensures { result ≡ slots (items_of body.now) }
 {
-    let mut n: u32 = 0;
-    let mut i = 0;
-    while i < body.len() {
-        if body[i] == 1 {
+    let mut n = 0;
+    let mut rest = body;
+    while let Some(([kind, _, _], others)) = rest.split_first_chunk::<ITEM_WIDTH>() {
+        if *kind == 1 {
             n += 1;
         }
-        i += ITEM_WIDTH;
+        rest = others;
     }
     n
 }
@@ -386,17 +332,18 @@ pub fn slots_of(s: &[u32]) -> u32
 }
 
 // Whether the rule is a conversion, and from where.
-pub fn conversion_of(s: &[u32]) -> Conversion
+pub fn conversion_of(s: &[u32]) -> Option<words::SymbolNo>
     requires { a_rule s.now ≡ true }
     ensures { source_of result ≡ source (rule_of s.now).body }
 {
-    if s[1] != 1 {
-        return Conversion::No;
+    let [kind, from, _] = body_of(s) else {
+        return None;
+    };
+    if *kind == 1 {
+        Some(words::SymbolNo(*from))
+    } else {
+        None
     }
-    if s[2] != 1 {
-        return Conversion::No;
-    }
-    Conversion::From(words::SymbolNo(s[3]))
 }
 
 // ---- for callers with any words
@@ -411,7 +358,7 @@ pub fn stretch_of(rules: &[u32], codes: Codes, no: words::RuleNo) -> Stretch
             length: 0,
         };
     }
-    let Start::At(i) = step_to(rules, no) else {
+    let Some(i) = step_to(rules, no) else {
         return Stretch {
             start: 0,
             length: 0,

@@ -1,35 +1,31 @@
 -- Laws of the whole.
 use mathlib.Core.Path.{◌≡◌, refl, sym, ap, ◌∙◌}
 use mathlib.Core.List.{List}
-use Prim.Native.Nat.{ℕ, ◌*◌, ◌/◌, ◌≤◌, ◌<◌}
+use Prim.Native.Nat.{ℕ, ◌*◌, ◌<◌}
 use native.Mathlib.Omega.{arith}
-use lib.ListN.{length, take, set, length-set}
+use lib.ListN.{take, set, length-set}
 use lib.Seq.{take-suc-set}
 use borrow.Author.Tests.{lt-ltb, le-ltb}
 use Rattle.words.specs.Limits.{row_width}
 use Rattle.words.specs.Outcome.{Res, bind, when}
 use Rattle.words.specs.Numbers.{Fault}
 use Rattle.rules.specs.Rules.{Rule}
-use Rattle.rules.proofs.Theorems.Every.{All}
 use Rattle.rows.specs.Rows.{rows_from, edges_from, edge_words, rising}
-use Rattle.rows.specs.Code.{Spells, cleared}
 use Rattle.rows.proofs.Theorems.Put.{edges-cut, cleared-front}
 use Rattle.tree.specs.Grow.{Grown, place_rules, root_alone, plant}
-use Rattle.tree.specs.Code.{room_of, edges_in, grown_of, Rowed, Stands, StillStands, Meets, Ready, Finishes, Within, Grows}
+use Rattle.tree.specs.Code.{Grew, room_of, edges_in, grown_of, Rowed, Stands, StillStands, Meets, Ready, Finishes, Within, Grows}
 use Rattle.tree.proofs.Theorems.Counted.{nodes-count}
 use Rattle.tree.specs.declared.Counts.{Counts}
 use Rattle.tree.specs.declared.Room as lent
-use Rattle.tree.specs.declared.Fault as why
 use Rattle.tree.specs.declared.Fault.TheVariants as code
-use Rattle.tree.specs.declared.Grew.{Grew}
-use Rattle.tree.specs.declared.Grew.TheVariants.{On, Refused}
+use Rattle.std.specs.Prelude.{Ok, Err}
 use Rattle.tree.proofs.Laws.{rows-count}
 
 abbrev pub root_counts : Counts
 root_counts = record { nodes = 1; edges = 0 }
 
 module _ (z : lent.Room) (R : List Rule) (ns es : List ℕ) (w : Within z ns es) where
-  pub no-root : z.nodes ≡ 0 → Meets z (plant (room_of z) R) (Refused code.NoNode) ns es
+  pub no-root : z.nodes ≡ 0 → Meets z (plant (room_of z) R) (Err code.NoNode) ns es
   unfolding plant bind when
   no-root h = record { answer = rw (le-ltb 0 z.nodes (omega arith)); stands = tt }
 
@@ -57,32 +53,22 @@ module _ (z : lent.Room) (R : List Rule) (ns es : List ℕ) (w : Within z ns es)
 
 -- ---- the end of a build
 
-module _ (r : Grew) (es : List ℕ) where
-  pub can-clear : Ready r es → (c : Counts) → r ≡ On c → (c.edges ≤ length es / row_width) × All Spells (rows_from c.edges es)
-  can-clear h c e = let s : Ready (On c) es = rw e at h in (omega (arith, s.0), s.1)
-
-  pub rows-finished : (es' : List ℕ) (c : Counts) → r ≡ On c → es' ≡ cleared es c.edges → (On c ≡ r) × Finishes r es es'
-  rows-finished es' c e f = (sym e, rw e f)
-
-  pub none-finished : (es' : List ℕ) (y : why.Fault) → r ≡ Refused y → (Refused y ≡ r) × Finishes r es es'
-  none-finished es' y e = (sym e, rw e tt)
-
 -- rows that are in order can be finished
-pub rows-ready : (z : lent.Room) (c : Counts) (es : List ℕ) → Rowed z c es → Ready (On c) es
+pub rows-ready : (z : lent.Room) (c : Counts) (es : List ℕ) → Rowed z c es → Ready (Ok c) es
 rows-ready z c es r = (omega (arith, r.within, r.fits), r.words)
 
 pub stands-ready : (z : lent.Room) (r : Grew) (ns es : List ℕ) → StillStands z r ns es → Ready r es
-stands-ready z (On c) ns es s = rows-ready z c es s.rowed
-stands-ready z (Refused y) ns es s = tt
+stands-ready z (Ok c) ns es s = rows-ready z c es s.rowed
+stands-ready z (Err y) ns es s = tt
 
 -- and then the words before the counts are the tree's own
-pub finished-words : (z : lent.Room) (c : Counts) (es es' : List ℕ) → Rowed z c es → Finishes (On c) es es' → take (row_width * c.edges) es' ≡ edge_words (edges_in c.edges es)
+pub finished-words : (z : lent.Room) (c : Counts) (es es' : List ℕ) → Rowed z c es → Finishes (Ok c) es es' → take (row_width * c.edges) es' ≡ edge_words (edges_in c.edges es)
 unfolding edges_in
 finished-words z c es es' r f = rw f (cleared-front es c.edges ∙ ap edge_words (sym (edges-cut c.edges es (omega (arith, r.within, r.fits)))))
 
 pub finished-grows : (z : lent.Room) (x : Res Fault Grown) (r : Grew) (ns es es' : List ℕ) → Meets z x r ns es → Finishes r es es' → Grows z x r ns es'
-finished-grows z x (Refused y) ns es es' m f = sym m.answer
-finished-grows z x (On c) ns es es' m f =
+finished-grows z x (Err y) ns es es' m f = sym m.answer
+finished-grows z x (Ok c) ns es es' m f =
     let s : Stands z c ns es = m.stands in
     record {
       tree = grown_of c ns es;

@@ -3,36 +3,37 @@ use mathlib.Core.Path.{◌≡◌, refl, ap, ◌∙◌}
 use mathlib.Core.Path as path
 use mathlib.Core.List.{List, [], ◌∷◌, ◌++◌}
 use mathlib.Core.Option.{none}
-use mathlib.Core.Bool.{true}
-use Prim.Native.Nat.{ℕ, ◌+◌, ◌*◌, ◌/◌, ◌-◌, ◌≤◌, ◌<◌}
+use mathlib.Core.Bool.{Bool, true, false, false≢true}
+use Prim.Native.Nat.{ℕ, zero, suc, ◌+◌, ◌*◌, ◌/◌, ◌-◌, ◌≤◌, ◌<◌}
 use native.Mathlib.Nat.{sub-zero}
 use native.Mathlib.Numerals.{add-one}
 use native.Mathlib.Omega.{arith}
 use lib.ListN.{length, take, drop, set, length-take, length-map, length-set}
 use lib.Seq.{length-take-le, take-suc-set, get_or-set_same}
-use borrow.Author.Tests.{lt-ltb, le-ltb}
+use borrow.Author.Tests.{lt-ltb, le-ltb, eqb-true, eqb-false}
+use Rattle.words.proofs.Theorems.Tests.{and_l, and_r}
+use Rattle.rules.specs.Rules.{rest_of, rule_of, rules_of, good_rule, good_rules}
+use Rattle.rules.specs.Code.{a_rule}
 use Rattle.words.specs.Limits.{most_nodes, row_width, most_reduces}
 use Rattle.words.specs.Outcome.{Res, no, bind, when}
 use Rattle.words.specs.Numbers.{Fault}
 use Rattle.rules.proofs.Theorems.Every.{all_map}
 use Rattle.rows.specs.Rows.{Edge, edge_of, rows_from, edges_of, rising, insert_edge, find, leaving}
-use Rattle.rows.specs.Code.{edge_is, Holds, row_at, put_in, place_of, looks_up}
-use Rattle.rows.specs.declared.Found.{Found}
-use Rattle.rows.specs.declared.Found.TheVariants.{Row, Nothing}
+use Rattle.rows.specs.Code.{reduces_are, edge_is, Holds, row_at, put_in, place_of, looks_up}
+use Rattle.rows.specs.declared.reduce_list.Reduces.{Reduces}
 use Rattle.rows.specs.declared.Edge as held
 use Rattle.rows.proofs.Theorems.Lookup.{row_at-length, edges-count, edges_step, row_within, row-found, none_found}
 use Rattle.rows.proofs.Theorems.Put.{edges-cut, last-edges, last-spells, last-all, written_last, put-in-length, put-in-edges, put-in-spells, put-in-all, all_drop}
 use Rattle.rows.proofs.Theorems.Order.{place-within, together}
 use Rattle.rows.proofs.Theorems.Insert.{insert-split, insert_all, insert-rises}
 use Rattle.tree.specs.Grow.{Grown, add_edge, add_node}
-use Rattle.tree.specs.Code.{room_of, fault_of, edges_in, grown_of, grew_of, Rising, Looks, Leads, Aged, Rowed, Stands, StillRowed, Rows, StillStands, Meets}
+use Rattle.tree.specs.Code.{Grew, room_of, fault_of, edges_in, grown_of, grew_of, Rising, Looks, Leads, Aged, Rowed, Stands, StillRowed, Rows, StillStands, Meets}
 use Rattle.tree.proofs.Theorems.Counted.{nodes-count}
 use Rattle.tree.specs.declared.Counts.{Counts}
 use Rattle.tree.specs.declared.Room as lent
 use Rattle.tree.specs.declared.Fault as why
 use Rattle.tree.specs.declared.Fault.TheVariants as code
-use Rattle.tree.specs.declared.Grew.{Grew}
-use Rattle.tree.specs.declared.Grew.TheVariants.{On, Refused}
+use Rattle.std.specs.Prelude.{◌==◌, Option, Some, None, is_some, Ok, Err}
 
 -- ---- rows
 
@@ -75,7 +76,7 @@ module _ (z : lent.Room) (c : Counts) (es : List ℕ) (r : Rowed z c es) where
       )
 
 -- the edge of row i
-row-leads : (z : lent.Room) (c : Counts) (es : List ℕ) (i : ℕ) → Rowed z c es → i < c.edges → Leads c.nodes (edge_of (row_at es i))
+pub row-leads : (z : lent.Room) (c : Counts) (es : List ℕ) (i : ℕ) → Rowed z c es → i < c.edges → Leads c.nodes (edge_of (row_at es i))
 unfolding edges_in
 row-leads z c es i r h =
     let ws = take (16 * c.edges) es in
@@ -114,15 +115,6 @@ row-marked z c es i w r h low =
 pub held_to : (h : held.Edge) (e : Edge) → Holds h e → h.to.0 ≡ e.to
 held_to h e s = ap (λ (e : Edge). e.to) s.says
 
--- its key, which no row has
-pub held_new : (h : held.Edge) (n k s t : ℕ) → Holds h (record { from = n; kind = k; sym = s; to = t; reduces = [] }) → (es : List Edge) → find es n k s ≡ none
-    → find es h.from.0 h.kind h.symbol.0 ≡ none
-held_new h n k s t o es f =
-    let a : h.from.0 ≡ n = ap (λ (e : Edge). e.from) o.says in
-    let b : h.kind ≡ k = ap (λ (e : Edge). e.kind) o.says in
-    let c : h.symbol.0 ≡ s = ap (λ (e : Edge). e.sym) o.says in
-    rw (a, b, c) f
-
 pub read-leads : (z : lent.Room) (c : Counts) (es : List ℕ) (i : ℕ) (h : held.Edge) → Rowed z c es → i < c.edges → Holds h (edge_of (row_at es i)) → h.to.0 < c.nodes
 read-leads z c es i h r w o = rw (held_to h _ o) (row-leads z c es i r w).to_in
 
@@ -139,38 +131,81 @@ pub rows-many : (n : ℕ) (es : List Edge) → rising es ≡ true
 rows-many n es r = let t = together n es (edge_of []) r in (omega (arith, t.ends), omega (arith, t.ends))
 
 -- the rows so far are looked up in the part of the slice that holds them
-pub looks : (c : Counts) (es : List ℕ) (n k s : ℕ) (r : Found) → row_width * c.edges ≤ length es → r ≡ looks_up (take (row_width * c.edges - 0) (drop 0 es)) n k s
+pub looks : (c : Counts) (es : List ℕ) (n k s : ℕ) (r : Option ℕ) → row_width * c.edges ≤ length es → r ≡ looks_up (take (row_width * c.edges - 0) (drop 0 es)) n k s
     → Looks c es n k s r
 unfolding edges_in
-looks c es n k s Nothing h e = none_found (take (16 * c.edges) es) n k s (rw sub-zero at e) refl
-looks c es n k s (Row i) h e =
+looks c es n k s None h e = none_found (take (16 * c.edges) es) n k s (rw sub-zero at e) refl
+looks c es n k s (Some i) h e =
     let f = row-found (take (16 * c.edges) es) n k s (rw sub-zero at e) i refl in
     let w : i < c.edges = omega (arith, f.within, length-take-le (16 * c.edges) es h) in
     record { within = w; finds = rw (row_within es c.edges i w) at f.finds }
 
+-- no row has the key
+pub row-free : (c : Counts) (es : List ℕ) (n k s : ℕ) (o : Option ℕ) → Looks c es n k s o → is_some o ≡ false → find (edges_in c.edges es) n k s ≡ none
+row-free c es n k s (Some i) h t = absurd (false≢true (path.sym t))
+row-free c es n k s None h t = h
+
+-- ---- the rules that are left, at most k of them
+
+-- a rule stands first, and at most j after it
+pub record Front (k : ℕ) (rest : List ℕ) : Type 0 where
+  pub j : ℕ
+  pub less : k ≡ j + 1
+  pub rule : a_rule rest ≡ true
+  pub after : good_rules 0 j (rest_of rest) ≡ true
+  pub first : rules_of k rest ≡ rule_of rest ∷ rules_of j (rest_of rest)
+
+pub front : (k : ℕ) (rest : List ℕ) → good_rules 0 k rest ≡ true → 0 < length rest → Front k rest
+unfolding good_rules rules_of
+front k [] g h = absurd (omega arith)
+front zero (w ∷ ws) g h = absurd (false≢true g)
+front (suc j) (w ∷ ws) g h =
+    let rest = w ∷ ws in
+    let r = and_l (good_rule 0 rest) (good_rules 0 j (rest_of rest)) g in
+    record {
+      j = j;
+      less = omega arith;
+      rule = r;
+      after = and_r (good_rule 0 rest) (good_rules 0 j (rest_of rest)) g;
+      first = refl;
+    }
+
+pub none-ahead : (k : ℕ) (rest : List ℕ) → length rest ≡ 0 → rules_of k rest ≡ []
+unfolding rules_of
+none-ahead zero [] h = refl
+none-ahead (suc k) [] h = refl
+none-ahead k (w ∷ ws) h = absurd (omega arith)
+
+-- whether words are left
+pub some-left : {A : Type 0} (b : Bool) (ws : List A) → b ≡ (length ws == 0) → b ≡ false → 0 < length ws
+some-left b ws e h = let n = eqb-false (length ws) 0 (path.sym e ∙ h) in omega arith
+
+pub none-left : {A : Type 0} (b : Bool) (ws : List A) → b ≡ (length ws == 0) → b ≡ true → length ws ≡ 0
+none-left b ws e h = eqb-true (length ws) 0 (path.sym e ∙ h)
+
 -- ---- an edge more
 
 module _ (z : lent.Room) (c : Counts) (ns es : List ℕ) (r : Rowed z c es) (e : held.Edge) where
-  pub edge-refused : z.edges ≤ c.edges → Rows z c (add_edge (room_of z) (grown_of c ns es) (edge_is e)) (Refused code.NoEdge) ns es
+  pub edge-refused : z.edges ≤ c.edges → Rows z c (add_edge (room_of z) (grown_of c ns es) (edge_is e)) (Err code.NoEdge) ns es
   unfolding add_edge when
   edge-refused h = record { answer = rw (rows-count z c es r, le-ltb c.edges z.edges h); rowed = tt }
 
-  pub edge-added : (p : ℕ) (es' : List ℕ) → p ≡ place_of e.from.0 e.kind e.symbol.0 (edges_in c.edges es) → es' ≡ put_in es p c.edges (edge_is e)
-      → c.edges < z.edges → e.to.0 < c.nodes → e.count ≤ most_reduces → find (edges_in c.edges es) e.from.0 e.kind e.symbol.0 ≡ none
-      → Rows z c (add_edge (room_of z) (grown_of c ns es) (edge_is e)) (On (record { nodes = c.nodes; edges = c.edges + 1 })) ns es'
+  pub edge-added : (p : ℕ) (es' : List ℕ) → p ≡ place_of e.key.from.0 e.key.kind e.key.symbol.0 (edges_in c.edges es) → es' ≡ put_in es p c.edges (edge_is e)
+      → c.edges < z.edges → e.to.0 < c.nodes → find (edges_in c.edges es) e.key.from.0 e.key.kind e.key.symbol.0 ≡ none
+      → Rows z c (add_edge (room_of z) (grown_of c ns es) (edge_is e)) (Ok (record { nodes = c.nodes; edges = c.edges + 1 })) ns es'
   unfolding add_edge when
-  edge-added p es' q w h to few f =
-      let m = row_more z c es r (edge_is e) p h (record { to_in = to; few = simp (length-map, length-take) (omega arith) }) q f in
+  edge-added p es' q w h to f =
+      let m = row_more z c es r (edge_is e) p h (record { to_in = to; few = simp (length-map, length-take) (omega (arith, e.reduces.few)) }) q f in
       record { answer = rw (rows-count z c es r, lt-ltb c.edges z.edges h, w, m.0); rowed = (rw w m.1, refl) }
 
 -- ---- what comes after a step
 
 module _ (r : Grew) (ns es : List ℕ) (x : Res Fault Grown) (e : grew_of r ns es ≡ x) where
-  pub on_then : (c : Counts) → r ≡ On c → (f : Grown → Res Fault Grown) → bind x f ≡ f (grown_of c ns es)
+  pub on_then : (c : Counts) → r ≡ Ok c → (f : Grown → Res Fault Grown) → bind x f ≡ f (grown_of c ns es)
   unfolding bind
   on_then c h f = rw (← e, h)
 
-  pub refused-then : (y : why.Fault) → r ≡ Refused y → (f : Grown → Res Fault Grown) → bind x f ≡ no (fault_of y)
+  pub refused-then : (y : why.Fault) → r ≡ Err y → (f : Grown → Res Fault Grown) → bind x f ≡ no (fault_of y)
   unfolding bind
   refused-then y h f = rw (← e, h)
 
@@ -190,24 +225,24 @@ more-nodes z c es r = record {
 -- rows and nodes that stand
 pub both-stand : (z : lent.Room) (k : ℕ) (r : Grew) (ns es : List ℕ) → 0 < k → k ≤ z.nodes → z.nodes ≤ length ns → z.nodes ≤ most_nodes → StillRowed z k r es
     → StillStands z r ns es
-both-stand z k (On c) ns es p h f m s = record { root = rw s.1 p; within = rw s.1 h; fits = f; few = m; rowed = s.0 }
-both-stand z k (Refused y) ns es p h f m s = tt
+both-stand z k (Ok c) ns es p h f m s = record { root = rw s.1 p; within = rw s.1 h; fits = f; few = m; rowed = s.0 }
+both-stand z k (Err y) ns es p h f m s = tt
 
 module _ (z : lent.Room) (c : Counts) (ns es : List ℕ) (s : Stands z c ns es) (n k y w : ℕ) where
-  pub node-refused : z.nodes ≤ c.nodes → Meets z (add_node (room_of z) (grown_of c ns es) n k y w) (Refused code.NoNode) ns es
+  pub node-refused : z.nodes ≤ c.nodes → Meets z (add_node (room_of z) (grown_of c ns es) n k y w) (Err code.NoNode) ns es
   unfolding add_node bind when
   node-refused h = record { answer = rw (nodes-count z c ns es s, le-ltb c.nodes z.nodes h); stands = tt }
 
-  pub node-added : (e : held.Edge) (r : Grew) (es' : List ℕ)
+  pub node-added : (ds : Reduces) (r : Grew) (es' : List ℕ)
       → let c' : Counts = record { nodes = c.nodes + 1; edges = c.edges } in
-      c.nodes < z.nodes → Holds e (record { from = n; kind = k; sym = y; to = c.nodes; reduces = [] })
-      → Rows z c' (add_edge (room_of z) (grown_of c' (set ns c.nodes w) es) (edge_is e)) r (set ns c.nodes w) es'
+      let e : Edge = record { from = n; kind = k; sym = y; to = c.nodes; reduces = reduces_are ds } in
+      c.nodes < z.nodes → reduces_are ds ≡ [] → Rows z c' (add_edge (room_of z) (grown_of c' (set ns c.nodes w) es) e) r (set ns c.nodes w) es'
       → Meets z (add_node (room_of z) (grown_of c ns es) n k y w) r (set ns c.nodes w) es'
   unfolding add_node bind when
-  node-added e r es' h holds rows =
+  node-added ds r es' h empty rows =
       let ns' = set ns c.nodes w in
       let more : take (c.nodes + 1) ns' ≡ take c.nodes ns ++ w ∷ [] = rw (add-one, take-suc-set ns c.nodes w (omega (arith, s.fits))) in
       record {
-        answer = rw (nodes-count z c ns es s, lt-ltb c.nodes z.nodes h) (rw (more, holds.says) at rows.answer);
+        answer = rw (nodes-count z c ns es s, lt-ltb c.nodes z.nodes h) (rw (more, empty) at rows.answer);
         stands = both-stand z (c.nodes + 1) r ns' es' (omega arith) (omega arith) (simp length-set s.fits) s.few rows.rowed;
       }

@@ -1,7 +1,7 @@
 -- Laws of placing a body.
 use mathlib.Core.Path.{◌≡◌, refl, ap, ◌∙◌}
 use mathlib.Core.Path as path
-use mathlib.Core.Bool.{Bool, true, false}
+use mathlib.Core.Bool.{Bool, true, false, false≢true}
 use mathlib.Core.List.{List, [], ◌∷◌, ◌++◌}
 use mathlib.Core.Option.{none, some}
 use Prim.Native.Nat.{ℕ, suc, ◌+◌, ◌≤◌, ◌<◌}
@@ -15,26 +15,20 @@ use Rattle.words.specs.Numbers.{no_node, no_edge}
 use Rattle.words.specs.Limits.{most_rules}
 use Rattle.words.specs.declared.NodeNo.{NodeNo}
 use Rattle.words.specs.declared.SymbolNo.{SymbolNo}
-use Rattle.rules.specs.Rules.{Item, size_of, body_words, items_of, rule_of, the_rules, source}
+use Rattle.rules.specs.Rules.{Item, body_words, rest_of, rules_of, good_rules, items_of, rule_of, the_rules, source}
 use Rattle.rules.specs.Code.{some_rules, source_of}
-use Rattle.rules.specs.declared.Conversion.{Conversion}
-use Rattle.rules.specs.declared.Conversion.TheVariants.{From, No}
-use Rattle.rules.proofs.Theorems.Words.{from-item, rules-most, Ahead, Here, ahead-start, ahead-end, ahead-here}
+use Rattle.rules.proofs.Theorems.Words.{from-item}
 use Rattle.rows.specs.Rows.{edge_of, insert_edge, find}
-use Rattle.rows.specs.Code.{Holds, row_at}
-use Rattle.rows.specs.declared.Edge as held
-use Rattle.tree.specs.Grow.{Grown, Room, kind, sym, edge_for, add_edge, add_node, place_last, place_inner, place, place_rule, place_rules}
-use Rattle.tree.specs.Code.{room_of, edges_in, grown_of, FoundAt, Stands, Meets, branch_of, inner_of, place_first, StillAt, Places}
+use Rattle.rows.specs.Code.{row_at}
+use Rattle.tree.specs.Grow.{Grown, Room, kind, sym, add_edge, add_node, place_last, place_inner, place, place_rule, place_rules}
+use Rattle.tree.specs.Code.{Grew, Placed, room_of, edges_in, grown_of, Looks, FoundAt, Stands, Meets, branch_of, inner_of, place_first, StillAt, Places}
 use Rattle.tree.proofs.Theorems.Counted.{nodes-count, branch-is}
 use Rattle.tree.specs.declared.Counts.{Counts}
 use Rattle.tree.specs.declared.Room as lent
 use Rattle.tree.specs.declared.Fault as why
 use Rattle.tree.specs.declared.Fault.TheVariants as code
-use Rattle.tree.specs.declared.Grew.{Grew}
-use Rattle.tree.specs.declared.Grew.TheVariants.{On, Refused}
-use Rattle.tree.specs.declared.place.Placed.{Placed}
-use Rattle.tree.specs.declared.place.Placed.TheVariants.{At, Stuck}
-use Rattle.tree.proofs.Laws.{read-leads, held_to, on_then, refused-then}
+use Rattle.std.specs.Prelude.{Option, Some, None, is_some, Ok, Err}
+use Rattle.tree.proofs.Laws.{row-leads, Front, front, none-ahead, on_then, refused-then}
 
 -- ---- a new branch
 
@@ -53,7 +47,7 @@ node-longer z g n k y w g' e = go (ltb (length g.nodes) z.nodes) (ltb (length g.
 
 module _ (z : lent.Room) (c : Counts) (ns es : List ℕ) (s : Stands z c ns es) (n k y : ℕ) where
   module _ (r : Grew) (ns' es' : List ℕ) (m : Meets z (add_node (room_of z) (grown_of c ns es) n k y 0) r ns' es') where
-    pub branch-made : (d : Counts) → r ≡ On d → Places z (branch_of (room_of z) (grown_of c ns es) n k y) (At d (record { 0 = c.nodes })) ns' es'
+    pub branch-made : (d : Counts) → r ≡ Ok d → Places z (branch_of (room_of z) (grown_of c ns es) n k y) (Ok (d, record { 0 = c.nodes })) ns' es'
     branch-made d e =
         let old = nodes-count z c ns es s in
         let t : Stands z d ns' es' = rw e at m.stands in
@@ -65,45 +59,44 @@ module _ (z : lent.Room) (c : Counts) (ns es : List ℕ) (s : Stands z c ns es) 
           stands = (t, omega arith);
         }
 
-    pub branch_stuck : (f : why.Fault) → r ≡ Refused f → Places z (branch_of (room_of z) (grown_of c ns es) n k y) (Stuck f) ns' es'
+    pub branch_stuck : (f : why.Fault) → r ≡ Err f → Places z (branch_of (room_of z) (grown_of c ns es) n k y) (Err f) ns' es'
     branch_stuck f e = record { answer = λ rest. path.sym (refused-then r ns' es' _ m.answer f e _); stands = tt }
 
 -- ---- an item: 11 at a leaf
 
 module _ (z : lent.Room) (c : Counts) (ns es : List ℕ) (s : Stands z c ns es) (n : ℕ) (h : n < c.nodes) (i : Item) where
-  pub inner-leaf : eqb (get_or ns n 0) 0 ≡ false → Places z (inner_of (room_of z) (grown_of c ns es) n i) (Stuck code.Collides) ns es
+  pub inner-leaf : eqb (get_or ns n 0) 0 ≡ false → Places z (inner_of (room_of z) (grown_of c ns es) n i) (Err code.Collides) ns es
   unfolding bind when
   inner-leaf l = record { answer = λ rest. rw (branch-is c ns es n h, l); stands = tt }
 
-  pub last_leaf : (r : ℕ) → eqb (get_or ns n 0) 0 ≡ false → Meets z (place (room_of z) r (i ∷ []) (grown_of c ns es) n) (Refused code.Collides) ns es
+  pub last_leaf : (r : ℕ) → eqb (get_or ns n 0) 0 ≡ false → Meets z (place (room_of z) r (i ∷ []) (grown_of c ns es) n) (Err code.Collides) ns es
   unfolding place bind when
   last_leaf r l = record { answer = rw (branch-is c ns es n h, l); stands = tt }
 
-  -- at a branch, the key k, y that the code looked up is the item's
-  module _ (b : eqb (get_or ns n 0) 0 ≡ true) (k y : ℕ) (p : k ≡ kind i) (q : y ≡ sym i) where
-    edge-is : edge_for (grown_of c ns es) n i ≡ find (edges_in c.edges es) n k y
-    edge-is = rw (p, q)
-
-    pub inner_made : (r : Placed) (ns' es' : List ℕ) → find (edges_in c.edges es) n k y ≡ none
-        → Places z (branch_of (room_of z) (grown_of c ns es) n k y) r ns' es' → Places z (inner_of (room_of z) (grown_of c ns es) n i) r ns' es'
+  module _ (b : eqb (get_or ns n 0) 0 ≡ true) where
+    pub inner_made : (r : Placed) (ns' es' : List ℕ) → find (edges_in c.edges es) n (kind i) (sym i) ≡ none
+        → Places z (branch_of (room_of z) (grown_of c ns es) n (kind i) (sym i)) r ns' es' → Places z (inner_of (room_of z) (grown_of c ns es) n i) r ns' es'
     unfolding bind when place_inner
-    inner_made r ns' es' f m = record { answer = λ rest. rw (branch-is c ns es n h, b, edge-is, f, ← p, ← q) (m.answer rest); stands = m.stands }
+    inner_made r ns' es' f m = record { answer = λ rest. rw (branch-is c ns es n h, b, f) (m.answer rest); stands = m.stands }
 
-    pub inner-follows : (row : ℕ) (e : held.Edge) → FoundAt c es n k y row → Holds e (edge_of (row_at es row))
-        → Places z (inner_of (room_of z) (grown_of c ns es) n i) (At c e.to) ns es
+    pub inner-follows : (row : ℕ) (t : NodeNo) → FoundAt c es n (kind i) (sym i) row → t.0 ≡ (edge_of (row_at es row)).to
+        → Places z (inner_of (room_of z) (grown_of c ns es) n i) (Ok (c, t)) ns es
     unfolding bind when place_inner
-    inner-follows row e f o =
-        let to = held_to e _ o in
-        record { answer = λ rest. rw (branch-is c ns es n h, b, edge-is, f.finds, to); stands = (s, read-leads z c es row e s.rowed f.within o) }
+    inner-follows row t f to = record {
+      answer = λ rest. rw (branch-is c ns es n h, b, f.finds, to);
+      stands = (s, rw to (row-leads z c es row s.rowed f.within).to_in);
+    }
 
-    pub last-there : (r row : ℕ) → FoundAt c es n k y row → Meets z (place (room_of z) r (i ∷ []) (grown_of c ns es) n) (Refused code.Collides) ns es
+    pub last-there : (r : ℕ) (o : Option ℕ) → Looks c es n (kind i) (sym i) o → is_some o ≡ true
+        → Meets z (place (room_of z) r (i ∷ []) (grown_of c ns es) n) (Err code.Collides) ns es
     unfolding place bind when place_last
-    last-there r row f = record { answer = rw (branch-is c ns es n h, b, edge-is, f.finds); stands = tt }
+    last-there r (Some row) f t = record { answer = rw (branch-is c ns es n h, b, f.finds); stands = tt }
+    last-there r None f t = absurd (false≢true t)
 
-    pub last_made : (r : ℕ) (a : Grew) (ns' es' : List ℕ) → find (edges_in c.edges es) n k y ≡ none
-        → Meets z (add_node (room_of z) (grown_of c ns es) n k y r) a ns' es' → Meets z (place (room_of z) r (i ∷ []) (grown_of c ns es) n) a ns' es'
+    pub last_made : (r : ℕ) (a : Grew) (ns' es' : List ℕ) → find (edges_in c.edges es) n (kind i) (sym i) ≡ none
+        → Meets z (add_node (room_of z) (grown_of c ns es) n (kind i) (sym i) r) a ns' es' → Meets z (place (room_of z) r (i ∷ []) (grown_of c ns es) n) a ns' es'
     unfolding place bind when place_last
-    last_made r a ns' es' f m = record { answer = rw (branch-is c ns es n h, b, edge-is, f, ← p, ← q) m.answer; stands = m.stands }
+    last_made r a ns' es' f m = record { answer = rw (branch-is c ns es n h, b, f) m.answer; stands = m.stands }
 
 -- ---- a body, from item k on
 
@@ -131,9 +124,9 @@ left-start z r b c ns es s h = record { inside = h; stands = s; at = s.root; nod
 module _ (z : lent.Room) (r : ℕ) (b : List Item) (c₀ : Counts) (ns₀ es₀ : List ℕ) (c : Counts) (ns es : List ℕ) (n k : ℕ) (l : Left z r b c₀ ns₀ es₀ c ns es n k)
     (i : Item) (w : get_elem? b k ≡ some i) where
   module _ (a : Placed) (ns' es' : List ℕ) (p : Places z (inner_of (room_of z) (grown_of c ns es) n i) a ns' es') (m : k + 1 < length b) where
-    pub left-more : (d : Counts) (t : NodeNo) → a ≡ At d t → length ns' ≡ length ns → length es' ≡ length es → Left z r b c₀ ns₀ es₀ d ns' es' t.0 (k + 1)
+    pub left-more : (d : Counts) (t : NodeNo) → a ≡ Ok (d, t) → length ns' ≡ length ns → length es' ≡ length es → Left z r b c₀ ns₀ es₀ d ns' es' t.0 (k + 1)
     left-more d t e kn ke =
-        let u : StillAt z (At d t) ns' es' = rw e at p.stands in
+        let u : StillAt z (Ok (d, t)) ns' es' = rw e at p.stands in
         let s = rw e at (p.answer (λ t n. place (room_of z) r (drop (k + 1) b) t n)) in
         record {
           inside = m;
@@ -144,7 +137,7 @@ module _ (z : lent.Room) (r : ℕ) (b : List Item) (c₀ : Counts) (ns₀ es₀ 
           same = s ∙ path.sym (inner-step b k i w m (room_of z) r (grown_of c ns es) n) ∙ l.same;
         }
 
-    pub left-stuck : (f : why.Fault) → a ≡ Stuck f → Meets z (place (room_of z) r b (grown_of c₀ ns₀ es₀) 0) (Refused f) ns' es'
+    pub left-stuck : (f : why.Fault) → a ≡ Err f → Meets z (place (room_of z) r b (grown_of c₀ ns₀ es₀) 0) (Err f) ns' es'
     left-stuck f e =
         let s = rw e at (p.answer (λ t n. place (room_of z) r (drop (k + 1) b) t n)) in
         record { answer = s ∙ path.sym (inner-step b k i w m (room_of z) r (grown_of c ns es) n) ∙ l.same; stands = tt }
@@ -155,58 +148,63 @@ module _ (z : lent.Room) (r : ℕ) (b : List Item) (c₀ : Counts) (ns₀ es₀ 
 
 -- ---- a rule
 
-module _ (z : lent.Room) (c : Counts) (ns es : List ℕ) (n : ℕ) (ws : List ℕ) (k : Conversion) (e : source_of k ≡ source (rule_of ws).body) where
-  pub rule-skipped : Stands z c ns es → (u : SymbolNo) → k ≡ From u → Meets z (place_first (room_of z) n ws (grown_of c ns es)) (On c) ns es
+module _ (z : lent.Room) (c : Counts) (ns es : List ℕ) (n : ℕ) (ws : List ℕ) (k : Option SymbolNo) (e : source_of k ≡ source (rule_of ws).body) where
+  pub rule-skipped : Stands z c ns es → is_some k ≡ true → Meets z (place_first (room_of z) n ws (grown_of c ns es)) (Ok c) ns es
   unfolding place_rule
-  rule-skipped s u h = record { answer = rw (← e, h); stands = s }
+  rule-skipped s = by k e
+    where
+      by : (k : Option SymbolNo) → source_of k ≡ source (rule_of ws).body → is_some k ≡ true → Meets z (place_first (room_of z) n ws (grown_of c ns es)) (Ok c) ns es
+      by (Some u) e h = record { answer = rw (← e); stands = s }
+      by None e h = absurd (false≢true h)
 
-  pub rule-placed : (b : List ℕ) (a : Grew) (ns' es' : List ℕ) → k ≡ No → b ≡ body_words ws
+  pub rule-placed : (b : List ℕ) (a : Grew) (ns' es' : List ℕ) → is_some k ≡ false → b ≡ body_words ws
       → Meets z (place (room_of z) n (items_of b) (grown_of c ns es) 0) a ns' es' → Meets z (place_first (room_of z) n ws (grown_of c ns es)) a ns' es'
   unfolding place_rule
-  rule-placed b a ns' es' h w m = record { answer = rw (← e, h, ← w) m.answer; stands = m.stands }
+  rule-placed b a ns' es' h w m = by k e h
+    where
+      by : (k : Option SymbolNo) → source_of k ≡ source (rule_of ws).body → is_some k ≡ false → Meets z (place_first (room_of z) n ws (grown_of c ns es)) a ns' es'
+      by (Some u) e h = absurd (false≢true (path.sym h))
+      by None e h = record { answer = rw (← e, ← w) m.answer; stands = m.stands }
 
--- ---- the rules, from word i on
+-- ---- the rules, so many of them placed
 
-pub record Rest (z : lent.Room) (ws : List ℕ) (c₀ : Counts) (ns₀ es₀ : List ℕ) (c : Counts) (ns es : List ℕ) (n i : ℕ) : Type 0 where
-  pub inside : i ≤ length ws
-  pub ahead : Ahead ws i n
+pub record Rest (z : lent.Room) (ws : List ℕ) (c₀ : Counts) (ns₀ es₀ : List ℕ) (c : Counts) (ns es : List ℕ) (n : ℕ) (rest : List ℕ) : Type 0 where
+  pub k : ℕ
+  pub few : n + k ≡ most_rules
+  pub good : good_rules 0 k rest ≡ true
   pub stands : Stands z c ns es
   pub nodes-kept : length ns ≡ length ns₀
   pub edges-kept : length es ≡ length es₀
-  pub same : place_rules (room_of z) (n + 1) (drop n (the_rules ws)) (grown_of c ns es) ≡ place_rules (room_of z) 1 (the_rules ws) (grown_of c₀ ns₀ es₀)
+  pub same : place_rules (room_of z) (n + 1) (rules_of k rest) (grown_of c ns es) ≡ place_rules (room_of z) 1 (the_rules ws) (grown_of c₀ ns₀ es₀)
 
-pub rest-start : (z : lent.Room) (ws : List ℕ) (c : Counts) (ns es : List ℕ) → Stands z c ns es → some_rules ws ≡ true → Rest z ws c ns es c ns es 0 0
-rest-start z ws c ns es s g = record { inside = omega arith; ahead = ahead-start ws g; stands = s; nodes-kept = refl; edges-kept = refl; same = refl }
+pub rest-start : (z : lent.Room) (ws : List ℕ) (c : Counts) (ns es : List ℕ) → Stands z c ns es → some_rules ws ≡ true → Rest z ws c ns es c ns es 0 ws
+rest-start z ws c ns es s g = record { k = most_rules; few = omega arith; good = g; stands = s; nodes-kept = refl; edges-kept = refl; same = refl }
 
-module _ (z : lent.Room) (ws : List ℕ) (c₀ : Counts) (ns₀ es₀ : List ℕ) (c : Counts) (ns es : List ℕ) (n i : ℕ) (l : Rest z ws c₀ ns₀ es₀ c ns es n i) where
-  module _ (h : i < length ws) where
-    pub rest-here : Here ws i n
-    rest-here = ahead-here ws i n l.ahead h
+module _ (z : lent.Room) (ws : List ℕ) (c₀ : Counts) (ns₀ es₀ : List ℕ) (c : Counts) (ns es : List ℕ) (n : ℕ) (rest : List ℕ) (l : Rest z ws c₀ ns₀ es₀ c ns es n rest) where
+  module _ (h : 0 < length rest) where
+    pub rest-here : Front l.k rest
+    rest-here = front l.k rest l.good h
 
-    pub rest-few : n < most_rules
-    rest-few = omega (arith, rest-here.counted, rules-most most_rules ws)
-
-    rest-step : bind (place_first (room_of z) (n + 1) (drop i ws) (grown_of c ns es)) (λ g. place_rules (room_of z) (n + 1 + 1) (drop (n + 1) (the_rules ws)) g)
+    rest-step : bind (place_first (room_of z) (n + 1) rest (grown_of c ns es)) (λ g. place_rules (room_of z) (n + 1 + 1) (rules_of rest-here.j (rest_of rest)) g)
         ≡ place_rules (room_of z) 1 (the_rules ws) (grown_of c₀ ns₀ es₀)
     unfolding place_rules
     rest-step = rw (rest-here.first, ← add-one (n + 1)) at l.same
 
-    module _ (a : Grew) (ns' es' : List ℕ) (m : Meets z (place_first (room_of z) (n + 1) (drop i ws) (grown_of c ns es)) a ns' es') where
-      pub rest_more : (d : Counts) → a ≡ On d → length ns' ≡ length ns → length es' ≡ length es → Rest z ws c₀ ns₀ es₀ d ns' es' (n + 1) (i + size_of (drop i ws))
+    module _ (a : Grew) (ns' es' : List ℕ) (m : Meets z (place_first (room_of z) (n + 1) rest (grown_of c ns es)) a ns' es') where
+      pub rest_more : (d : Counts) → a ≡ Ok d → length ns' ≡ length ns → length es' ≡ length es → Rest z ws c₀ ns₀ es₀ d ns' es' (n + 1) (rest_of rest)
       rest_more d e kn ke = record {
-        inside = rest-here.fits;
-        ahead = rest-here.next;
+        k = rest-here.j;
+        few = omega (arith, l.few, rest-here.less);
+        good = rest-here.after;
         stands = rw e at m.stands;
         nodes-kept = kn ∙ l.nodes-kept;
         edges-kept = ke ∙ l.edges-kept;
         same = path.sym (on_then a ns' es' _ m.answer d e _) ∙ rest-step;
       }
 
-      pub rest-refused : (y : why.Fault) → a ≡ Refused y → Meets z (place_rules (room_of z) 1 (the_rules ws) (grown_of c₀ ns₀ es₀)) (Refused y) ns' es'
+      pub rest-refused : (y : why.Fault) → a ≡ Err y → Meets z (place_rules (room_of z) 1 (the_rules ws) (grown_of c₀ ns₀ es₀)) (Err y) ns' es'
       rest-refused y e = record { answer = path.sym (refused-then a ns' es' _ m.answer y e _) ∙ rest-step; stands = tt }
 
-  pub rest_end : length ws ≤ i → Meets z (place_rules (room_of z) 1 (the_rules ws) (grown_of c₀ ns₀ es₀)) (On c) ns es
+  pub rest_end : length rest ≡ 0 → Meets z (place_rules (room_of z) 1 (the_rules ws) (grown_of c₀ ns₀ es₀)) (Ok c) ns es
   unfolding place_rules
-  rest_end h =
-      let none : drop n (the_rules ws) ≡ [] = drop_of_length-le (the_rules ws) {i = n} (omega (arith, ahead-end ws i n l.ahead h)) in
-      record { answer = rw none at l.same; stands = l.stands }
+  rest_end h = record { answer = rw (none-ahead l.k rest h) at l.same; stands = l.stands }

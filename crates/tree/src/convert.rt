@@ -1,7 +1,7 @@
 // Conversions in rule order; for each, nodes in number order. 16, then for each new row 14, then 13.
 ghost use Rattle.std.specs.Prelude.{◌≡◌, true, not, ◌&&◌, List, ◌≢◌, ℕ, ◌≤◌, ◌<◌, eqb, length, get_or};
 ghost use Rattle.std.proofs.Math.Option.{none};
-ghost use Rattle.words.specs.Limits.{most_nodes, most_reduces};
+ghost use Rattle.words.specs.Limits.{most_nodes};
 ghost use Rattle.rules.specs.Rules.{the_rules};
 ghost use Rattle.rules.specs.Code.{a_rule, some_rules};
 ghost use Rattle.rows.specs.Rows.{find, leaving};
@@ -9,7 +9,7 @@ ghost use Rattle.rows.specs.Code.{edge_is, Adds};
 ghost use Rattle.tree.specs.Grow.{add_converted, offset_on, copy_branches, convert_to, convert_at, convert_nodes, convert_all};
 ghost use Rattle.tree.specs.Code.{room_of, grown_of, edges_in, reduces_in, copy_of, convert_first, Rowed, Rows};
 
-use super::{Counts, Fault, Grew, Room, table};
+use super::{Counts, Fault, Room, table};
 
 // A conversion: its rule, and the typecodes that it goes from and to.
 #[derive(Clone, Copy)]
@@ -19,40 +19,40 @@ pub struct Change {
     pub result: words::SymbolNo,
 }
 
-// The edge with one reduce more, from node `from` and with this symbol, a new key: 14, then 13.
+// The edge `e` with one reduce more, from node `from` and with this symbol, a new key: 14 where there was no place for it, then 13.
 fn add_converted(
     room: Room,
     c: Counts,
     from: words::NodeNo,
     symbol: words::SymbolNo,
-    added: rows::Added,
+    e: rows::Edge,
+    reduces: Option<rows::Reduces>,
     edges: &mut [u32],
-) -> Grew
-    requires { Rowed room c edges.old × (added.edge.to.0 < c.nodes) × (added.edge.count ≤ most_reduces)
-        × (find (edges_in c.edges edges.old) from.0 added.edge.kind symbol.0 ≡ none) }
+) -> Result<Counts, Fault>
+    requires { Rowed room c edges.old × (e.to.0 < c.nodes) × (find (edges_in c.edges edges.old) from.0 e.key.kind symbol.0 ≡ none) }
     ensures { (ns : List ℕ) → Rows room c
-        (add_converted (room_of room) (grown_of c ns edges.old) from.0 symbol.0 (edge_is added.edge) (reduces_in added))
+        (add_converted (room_of room) (grown_of c ns edges.old) from.0 symbol.0 (edge_is e) (reduces_in reduces))
         result ns edges.new }
 {
-    if !added.ok {
-        return Grew::Refused(Fault::SixthReduce);
-    }
-    let mut e = added.edge;
-    e.from = from;
-    e.symbol = symbol;
-    table::add_edge(room, c, e, edges)
+    let reduces = reduces.ok_or(Fault::SixthReduce)?;
+    let key = rows::Key {
+        from,
+        symbol,
+        ..e.key
+    };
+    table::add_edge(room, c, rows::Edge { key, reduces, ..e }, edges)
 }
 
 // The conversion before an edge's reduces: at offset 0 on a constant edge, 1 on a variable one.
-fn with_conversion(e: rows::Edge, rule: words::RuleNo) -> rows::Added
-    ensures { Adds e (record { rule = rule.0; offset = offset_on e.kind }) result }
+fn with_conversion(e: rows::Edge, rule: words::RuleNo) -> Option<rows::Reduces>
+    ensures { Adds e.reduces (record { rule = rule.0; offset = offset_on e.key.kind }) result }
 {
     let first = rows::Reduce { rule, offset: 0 };
-    let kind = e.kind;
+    let kind = e.key.kind;
     if kind == 0 {
-        return rows::with_reduce(e, first);
+        return e.reduces.with_reduce(first);
     }
-    rows::with_offset_reduce(e, first)
+    e.reduces.with_offset_reduce(first)
 }
 
 // An edge is copied to node `m`, unless that has the key.
@@ -63,17 +63,17 @@ fn copy_row(
     m: words::NodeNo,
     e: rows::Edge,
     edges: &mut [u32],
-) -> Grew
-    requires { Rowed room c edges.old × (e.to.0 < c.nodes) × (e.count ≤ most_reduces) }
+) -> Result<Counts, Fault>
+    requires { Rowed room c edges.old × (e.to.0 < c.nodes) }
     ensures { (ns : List ℕ) → Rows room c (copy_of (room_of room) rule.0 m.0 (edge_is e) (grown_of c ns edges.old))
         result ns edges.new }
 {
-    let symbol = e.symbol;
-    let rows::Found::Nothing = table::look(c, m, e.kind, symbol, edges) else {
-        return Grew::On(c);
-    };
-    let added = with_conversion(e, rule);
-    add_converted(room, c, m, symbol, added, edges)
+    let key = rows::Key { from: m, ..e.key };
+    if table::look(c, key, edges).is_some() {
+        return Ok(c);
+    }
+    let reduces = with_conversion(e, rule);
+    add_converted(room, c, m, key.symbol, e, reduces, edges)
 }
 
 // The edges that node `n` has now are copied to node `m`, in key order. They stay together, while others may come to stand before them.
@@ -84,7 +84,7 @@ fn copy_branches(
     n: words::NodeNo,
     m: words::NodeNo,
     edges: &mut [u32],
-) -> Grew
+) -> Result<Counts, Fault>
     requires { Rowed room start edges.old × (n.0 ≢ m.0) × (n.0 < most_nodes) }
     ensures { (ns : List ℕ) → Rows room start
         (copy_branches (room_of room) rule.0 m.0 (leaving n.0 (edges_in start.edges edges.old)) (grown_of start ns edges.old))
@@ -92,22 +92,12 @@ fn copy_branches(
 {
     let end = table::rows_of(start, n, edges);
     let mut c = start;
-    let mut k = 0;
-    while k < end {
+    for k in 0..end {
         let row = table::first_row(c, n, edges) + k;
         let e = rows::read_row(edges, row);
-        let grew = copy_row(room, c, rule, m, e, edges);
-        match grew {
-            Grew::On(next) => {
-                c = next;
-            }
-            Grew::Refused(f) => {
-                return Grew::Refused(f);
-            }
-        }
-        k += 1;
+        c = copy_row(room, c, rule, m, e, edges)?;
     }
-    Grew::On(c)
+    Ok(c)
 }
 
 // Whether these are two different branches.
@@ -115,10 +105,7 @@ pub fn apart(nodes: &[u32], n: words::NodeNo, m: words::NodeNo) -> bool
     requires { (n.0 < length nodes.now) × (m.0 < length nodes.now) }
     ensures { result ≡ not (eqb n.0 m.0) && eqb (get_or nodes.now n.0 0) 0 && eqb (get_or nodes.now m.0 0) 0 }
 {
-    if n.0 == m.0 {
-        return false;
-    }
-    table::branch_at(nodes, n) && table::branch_at(nodes, m)
+    n != m && table::branch_at(nodes, n) && table::branch_at(nodes, m)
 }
 
 // At a node with the edge `e` for the conversion's result: an edge for its source, or the branches copied.
@@ -130,9 +117,9 @@ fn convert_to(
     e: rows::Edge,
     nodes: &[u32],
     edges: &mut [u32],
-) -> Grew
-    requires { Rowed room c edges.old × (c.nodes ≤ length nodes.now) × (e.to.0 < c.nodes) × (e.count ≤ most_reduces)
-        × (e.kind ≡ 1) × (c.nodes ≤ most_nodes) }
+) -> Result<Counts, Fault>
+    requires { Rowed room c edges.old × (c.nodes ≤ length nodes.now) × (e.to.0 < c.nodes)
+        × (e.key.kind ≡ 1) × (c.nodes ≤ most_nodes) }
     ensures { Rows room c
         (convert_to (room_of room) change.rule.0 change.source.0 (grown_of c nodes.now edges.old) n.0 (edge_is e)
         (find (edges_in c.edges edges.old) n.0 1 change.source.0))
@@ -140,15 +127,19 @@ fn convert_to(
 {
     let rule = change.rule;
     let source = change.source;
-    let rows::Found::Row(row) = table::look(c, n, 1, source, edges) else {
-        let added = rows::with_reduce(e, rows::Reduce { rule, offset: 0 });
-        return add_converted(room, c, n, source, added, edges);
+    let key = rows::Key {
+        from: n,
+        kind: 1,
+        symbol: source,
     };
-    let d = rows::read_row(edges, row);
+    let Some(row) = table::look(c, key, edges) else {
+        let reduces = e.reduces.with_reduce(rows::Reduce { rule, offset: 0 });
+        return add_converted(room, c, n, source, e, reduces, edges);
+    };
     let from = e.to;
-    let to = d.to;
+    let to = rows::end_of(edges, row);
     if !apart(nodes, from, to) {
-        return Grew::Refused(Fault::BadCopy);
+        return Err(Fault::BadCopy);
     }
     copy_branches(room, c, rule, from, to, edges)
 }
@@ -161,16 +152,20 @@ fn convert_at(
     n: words::NodeNo,
     nodes: &[u32],
     edges: &mut [u32],
-) -> Grew
+) -> Result<Counts, Fault>
     requires { Rowed room c edges.old × (c.nodes ≤ length nodes.now) × (c.nodes ≤ most_nodes) }
     ensures { Rows room c
         (convert_at (room_of room) change.rule.0 change.source.0 (grown_of c nodes.now edges.old) n.0
         (find (edges_in c.edges edges.old) n.0 1 change.result.0))
         result nodes.now edges.new }
 {
-    let result = change.result;
-    let rows::Found::Row(row) = table::look(c, n, 1, result, edges) else {
-        return Grew::On(c);
+    let key = rows::Key {
+        from: n,
+        kind: 1,
+        symbol: change.result,
+    };
+    let Some(row) = table::look(c, key, edges) else {
+        return Ok(c);
     };
     let e = rows::read_row(edges, row);
     convert_to(room, c, change, n, e, nodes, edges)
@@ -183,29 +178,18 @@ fn convert_nodes(
     change: Change,
     nodes: &[u32],
     edges: &mut [u32],
-) -> Grew
+) -> Result<Counts, Fault>
     requires { Rowed room start edges.old × (start.nodes ≤ length nodes.now) × (start.nodes ≤ most_nodes) }
     ensures { Rows room start
         (convert_nodes (room_of room) change.rule.0 change.result.0 change.source.0 start.nodes 0
         (grown_of start nodes.now edges.old))
         result nodes.now edges.new }
 {
-    let end = start.nodes;
     let mut c = start;
-    let mut n = 0;
-    while n < end {
-        let grew = convert_at(room, c, change, words::NodeNo(n as u32), nodes, edges);
-        match grew {
-            Grew::On(next) => {
-                c = next;
-            }
-            Grew::Refused(f) => {
-                return Grew::Refused(f);
-            }
-        }
-        n += 1;
+    for n in 0..start.nodes {
+        c = convert_at(room, c, change, words::NodeNo(n as u32), nodes, edges)?;
     }
-    Grew::On(c)
+    Ok(c)
 }
 
 // The rule that stands first in a slice is carried out, if it is a conversion.
@@ -216,14 +200,14 @@ fn convert_rule(
     rule: &[u32],
     nodes: &[u32],
     edges: &mut [u32],
-) -> Grew
+) -> Result<Counts, Fault>
     requires { Rowed room c edges.old × (c.nodes ≤ length nodes.now) × (c.nodes ≤ most_nodes) × (a_rule rule.now ≡ true) }
     ensures { Rows room c
         (convert_first (room_of room) no.0 rule.now (grown_of c nodes.now edges.old))
         result nodes.now edges.new }
 {
-    let rules::Conversion::From(source) = rules::conversion_of(rule) else {
-        return Grew::On(c);
+    let Some(source) = rules::conversion_of(rule) else {
+        return Ok(c);
     };
     let result = rules::result_of(rule);
     let change = Change {
@@ -241,28 +225,15 @@ pub fn convert_all(
     rules: &[u32],
     nodes: &[u32],
     edges: &mut [u32],
-) -> Grew
+) -> Result<Counts, Fault>
     requires { Rowed room start edges.old × (start.nodes ≤ length nodes.now) × (start.nodes ≤ most_nodes) × (some_rules rules.now ≡ true) }
     ensures { Rows room start
         (convert_all (room_of room) 1 (the_rules rules.now) (grown_of start nodes.now edges.old))
         result nodes.now edges.new }
 {
     let mut c = start;
-    let mut n: u32 = 0;
-    let mut i = 0;
-    while i < rules.len() {
-        n += 1;
-        let rest = &rules[i..];
-        let grew = convert_rule(room, c, words::RuleNo(n), rest, nodes, edges);
-        match grew {
-            Grew::On(next) => {
-                c = next;
-            }
-            Grew::Refused(f) => {
-                return Grew::Refused(f);
-            }
-        }
-        i += rules::size_of(rest);
+    for (no, rule) in rules::each(rules) {
+        c = convert_rule(room, c, no, rule, nodes, edges)?;
     }
-    Grew::On(c)
+    Ok(c)
 }

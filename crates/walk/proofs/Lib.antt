@@ -1,4 +1,4 @@
 pub mod Theorems
 pub mod Laws
 pub mod Parts
-pub mod Passes
+pub mod Running

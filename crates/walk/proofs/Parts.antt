@@ -7,78 +7,71 @@ use Prim.Native.Nat.{ℕ, zero, suc, pred, ◌+◌, ◌-◌, ◌/◌, ◌≤◌,
 use native.Mathlib.Nat.{sub-zero}
 use native.Mathlib.Numerals.{add-one}
 use native.Mathlib.Omega.{arith}
-use lib.Dec.{ltb}
+use lib.Dec.{ltb, eqb}
 use lib.ListN.{length, get_or, set, take, drop, drop_of_length-le, length-set}
 use borrow.Author.Tests.{eq-eqb, ne_eqb, lt-ltb, le-ltb, ltb-false}
 use lib.Seq.{drop-cons}
-use Rattle.words.specs.Outcome.{Res, ok, no, bind, when}
+use Rattle.words.specs.Outcome.{Res, bind, when}
 use Rattle.words.specs.Limits.{row_width, most_reduces}
-use Rattle.words.specs.Numbers.{Why, misfit, no_entry}
+use Rattle.words.specs.Numbers as reasons
+use Rattle.walk.specs.declared.refusal.Why.{Why}
 use Rattle.rules.specs.Rules.{the_rules, rule_of}
 use Rattle.words.proofs.Theorems.Parts.{part-all}
 use Rattle.words.proofs.Theorems.Tests.{failed, passed}
 use Rattle.words.specs.declared.NodeNo.{NodeNo}
 use Rattle.words.specs.declared.SymbolNo.{SymbolNo}
-use Rattle.rules.specs.Code as rules
 use Rattle.rules.specs.Code.{Starts, Missing}
-use Rattle.rules.specs.declared.Start.{Start}
-use Rattle.rules.specs.declared.Start.TheVariants as start
 use Rattle.rows.specs.Rows.{Reduce, Edge, edge_of, edges_of, find, bare}
 use Rattle.rows.specs.Code.{looks_up, edge_is, Holds, row_at}
 use Rattle.rows.specs.declared.Edge as edge
 use Rattle.rows.proofs.Theorems.Lookup.{row-found, none_found}
-use Rattle.rows.specs.declared.Found.{Found}
-use Rattle.rows.specs.declared.Found.TheVariants.{Row}
-use Rattle.rows.specs.declared.Found.TheVariants as found
 use Rattle.formula.specs.Check.{check}
 use Rattle.formula.specs.Reducing.{Trees, flat, reduce, reduce_all}
 use Rattle.formula.specs.Code as formula
 use Rattle.formula.proofs.Theorems.Held.{trees-count}
 use Rattle.formula.specs.declared.Trees as held
-use Rattle.formula.specs.declared.Reduced.{Reduced}
-use Rattle.formula.specs.declared.Reduced.TheVariants.{Done, TooFew, Full}
+use Rattle.formula.specs.declared.Unfit.{Unfit}
+use Rattle.formula.specs.declared.Unfit.TheVariants.{TooFew, Full}
+use Rattle.std.specs.Prelude.{Result, Ok, Err, Option as Held, Some, None}
 use Rattle.walk.specs.Walk.{Tables, tables_of, Room, State, Choice, conversion, follow, step_by, root_step, finish, converted, convert_by, unwanted, pop_by, goal_by, complete, leaf, token, branch}
-use Rattle.walk.specs.Code.{tables, room_of, stack, state_of, Chooses, Placed, Fit, Follows, Roots, Opens, Branches, Lies, Finishes, Bare, Framed, Stood, Ready, stand_at, under, at_node, Unwanted, Completes, Leaves, choice_of, Steps, with_trees, Converted, Closes}
+use Rattle.walk.specs.Code.{tables, room_of, stack, state_of, Chooses, Placed, Follows, Roots, Opens, Branches, Lies, Finishes, Bare, Framed, Stood, Ready, stand_at, under, at_node, Unwanted, Completes, Leaves, choice_of, Steps, with_trees, Converted, Closes}
 use Rattle.walk.specs.declared.Wish.{Wish}
 use Rattle.walk.specs.declared.Wish.TheVariants.{Goal, Frame}
 use Rattle.walk.specs.declared.Stand.{Stand}
 use Rattle.walk.specs.declared.At.{At}
-use Rattle.walk.specs.declared.Why.TheVariants.{Unparseable, TooShort, Misfit, NoFrame, NoEntry}
-use Rattle.walk.specs.declared.Turn as declared
-use Rattle.walk.specs.declared.Turn.TheVariants.{On, End, Stop}
+use Rattle.walk.specs.declared.refusal.Why.TheVariants.{Unparseable, TooShort, Misfit, NoFrame}
+use Rattle.walk.specs.declared.Step.{Step}
+use Rattle.walk.specs.declared.Step.TheVariants.{On, End}
+use Rattle.walk.specs.Fit.{Fit}
+use Rattle.walk.specs.Refused.{why_of, refusal}
 use Rattle.walk.specs.declared.Choice as chosen
-use Rattle.walk.specs.declared.Chosen.{Chosen}
-use Rattle.walk.specs.declared.Chosen.TheVariants.{By, Nothing}
 use Rattle.walk.proofs.Laws.{stack-length, stack_push, stack_top, bare-none}
 
 -- ---- an edge that is followed
 
-module _ (rs : List ℕ) (room : ℕ) {h : edge.Edge} {e : Edge} (d : Holds h e) (s : At) (ls ws : List ℕ) {r : Reduced} {ls' ws' : List ℕ}
-    (g : formula.Gives room r ls' ws' (reduce_all (the_rules rs) room (edge_is h).reduces (formula.trees_of s.trees ls ws))) where
-  abbrev all : Res Why Trees
+-- a reduce's refusal is the pass's
+refusal-is : (u : Unfit) → why_of (refusal u) ≡ formula.unfit u
+refusal-is TooFew = refl
+refusal-is Full = refl
+
+module _ (rs : List ℕ) (room : ℕ) {h : edge.Edge} {e : Edge} (d : Holds h e) (s : At) (ls ws : List ℕ) where
+  abbrev all : Res reasons.Why Trees
   all = reduce_all (the_rules rs) room (edge_is h).reduces (formula.trees_of s.trees ls ws)
 
-  abbrev To : Edge → declared.Turn → Type 0
-  To x q = Follows rs room x s ls ws q ls' ws'
+  abbrev To : List ℕ → List ℕ → Edge → Result Step Why → Type 0
+  To ls' ws' x q = Follows rs room x s ls ws q ls' ws'
 
-  pub follow-on : (us : held.Trees) → r ≡ Done us → To e (On (record { node = h.to; frames = s.frames; trees = us; token = s.token; last = s.last }))
+  pub follow-on : {ls' ws' : List ℕ} (us : held.Trees) → formula.Gives room (Ok us) ls' ws' all
+      → To ls' ws' e (Ok (On (record { node = h.to; frames = s.frames; trees = us; token = s.token; last = s.last })))
   unfolding follow tables_of bind
-  follow-on us q =
-      let o : ok (formula.trees_of us ls' ws') ≡ all = rw q at g.outcome in
-      subst (λ (x : Edge). To x (On (record { node = h.to; frames = s.frames; trees = us; token = s.token; last = s.last }))) d.says λ ns es st ts fs goal p.
-      record { turned = rw (← o); whole = (record { begun = p.begun; token = p.token; frames = p.frames }, rw q at g.inside) }
+  follow-on {ls'} {ws'} us g =
+      subst (λ (x : Edge). To ls' ws' x (Ok (On (record { node = h.to; frames = s.frames; trees = us; token = s.token; last = s.last })))) d.says λ ns es st ts fs goal p.
+      record { turned = rw (← g.outcome); whole = (record { begun = p.begun; token = p.token; frames = p.frames }, g.inside) }
 
-  pub follow-few : r ≡ TooFew → To e (Stop Misfit)
+  pub follow-refused : {ls' ws' : List ℕ} (u : Unfit) → formula.Gives room (Err u) ls' ws' all → To ls' ws' e (Err (refusal u))
   unfolding follow tables_of bind
-  follow-few q =
-      let o : no misfit ≡ all = rw q at g.outcome in
-      subst (λ (x : Edge). To x (Stop Misfit)) d.says λ ns es st ts fs goal p. record { turned = rw (← o); whole = tt }
-
-  pub follow-full : r ≡ Full → To e (Stop NoEntry)
-  unfolding follow tables_of bind
-  follow-full q =
-      let o : no no_entry ≡ all = rw q at g.outcome in
-      subst (λ (x : Edge). To x (Stop NoEntry)) d.says λ ns es st ts fs goal p. record { turned = rw (← o); whole = tt }
+  follow-refused {ls'} {ws'} u g =
+      subst (λ (x : Edge). To ls' ws' x (Err (refusal u))) d.says λ ns es st ts fs goal p. record { turned = rw (← g.outcome, refusal-is u); whole = tt }
 
 none-reduced : (ds : List Reduce) → ltb 0 (length ds) ≡ false → ds ≡ []
 none-reduced [] e = refl
@@ -86,64 +79,64 @@ none-reduced (d ∷ ds) e = absurd (omega (arith, ltb-false 0 (suc (length ds)) 
 
 -- an edge without reduces: its end alone is read
 pub follow-bare : (rs : List ℕ) (room : ℕ) (e : Edge) (s : At) (ls ws : List ℕ) {b : Bool} {q : At} → b ≡ ltb 0 (length e.reduces) → b ≡ false
-    → q ≡ at_node s e.to → formula.Inside room s.trees ls ws → Follows rs room e s ls ws (On q) ls ws
+    → q ≡ at_node s e.to → formula.Inside room s.trees ls ws → Follows rs room e s ls ws (Ok (On q)) ls ws
 unfolding follow tables_of bind reduce_all
 follow-bare rs room e s ls ws h z o i =
-    subst (λ (x : At). Follows rs room e s ls ws (On x) ls ws) (sym o) λ ns es st ts fs goal p.
+    subst (λ (x : At). Follows rs room e s ls ws (Ok (On x)) ls ws) (sym o) λ ns es st ts fs goal p.
     record { turned = rw (none-reduced e.reduces (sym h ∙ z)); whole = (record { begun = p.begun; token = p.token; frames = p.frames }, i) }
 
 -- ---- a variable edge that is looked up and followed
 
-module _ (rs es : List ℕ) (room n t : ℕ) (s : At) (ls ws : List ℕ) {f : Found} (l : f ≡ looks_up es n 1 t) where
-  pub step-none : f ≡ found.Nothing → Steps rs es room n t s ls ws (Stop (Unparseable s.last)) ls ws
+module _ (rs es : List ℕ) (room n t : ℕ) (s : At) (ls ws : List ℕ) {f : Held ℕ} (l : f ≡ looks_up es n 1 t) where
+  pub step-none : f ≡ None → Steps rs es room n t s ls ws (Err (Unparseable s.last)) ls ws
   unfolding step_by
   step-none e ns st ts fs goal p = record { turned = rw (none_found es n 1 t l e); whole = tt }
 
-  pub step_row : (row : ℕ) → f ≡ Row row → {r : declared.Turn} {ls' ws' : List ℕ} → Follows rs room (edge_of (row_at es row)) s ls ws r ls' ws'
+  pub step_row : (row : ℕ) → f ≡ Some row → {r : Result Step Why} {ls' ws' : List ℕ} → Follows rs room (edge_of (row_at es row)) s ls ws r ls' ws'
       → Steps rs es room n t s ls ws r ls' ws'
   unfolding step_by
   step_row row e g ns st ts fs goal p = rw (row-found es n 1 t l row e).finds (g ns es st ts fs goal p)
 
-pub step-root : (rs es : List ℕ) (room t : ℕ) (s : At) (ls ws : List ℕ) {r : declared.Turn} {ls' ws' : List ℕ} → Steps rs es room 0 t s ls ws r ls' ws'
+pub step-root : (rs es : List ℕ) (room t : ℕ) (s : At) (ls ws : List ℕ) {r : Result Step Why} {ls' ws' : List ℕ} → Steps rs es room 0 t s ls ws r ls' ws'
     → Roots rs es room t s ls ws r ls' ws'
 unfolding root_step tables_of
 step-root rs es room t s ls ws g = g
 
 -- what is asked of the row that a look-up finds
-pub slim-row : {rs is es js : List ℕ} → Fit rs is es js → (n k t : ℕ) {f : Found} → f ≡ looks_up es n k t → (row : ℕ) → f ≡ Row row
+pub slim-row : {es js : List ℕ} → Fit es js → (n k t : ℕ) {f : Held ℕ} → f ≡ looks_up es n k t → (row : ℕ) → f ≡ Some row
     → (row < length es / row_width) × (length (edge_of (row_at es row)).reduces ≤ most_reduces)
 slim-row {es = es} h n k t l row e = let w = row-found es n k t l row e in (w.within, h.slim n k t (edge_of (row_at es row)) w.finds)
 
 -- ---- a node that becomes a frame
 
 module _ (es : List ℕ) (s : At) (fs : List ℕ) where
-  pub open-root : s.node.0 ≡ 0 → Opens es s fs (Stop (Unparseable s.token)) fs
+  pub open-root : eqb s.node.0 0 ≡ true → Opens es s fs (Err (Unparseable s.token)) fs
   unfolding token tables_of bind when
-  open-root e R ns st ts ls ws goal room x xs d p h = record { turned = rw (eq-eqb s.node.0 0 e); whole = tt }
+  open-root e R ns st ts ls ws goal room x xs d p h = record { turned = rw e; whole = tt }
 
-  module _ (z : s.node.0 ≡ 0 → ⊥) {b : Bool} (l : b ≡ not (bare (edges_of es) s.node.0)) where
-    pub open-bare : not b ≡ true → Opens es s fs (Stop (Unparseable s.token)) fs
+  module _ (z : eqb s.node.0 0 ≡ false) {b : Bool} (l : b ≡ not (bare (edges_of es) s.node.0)) where
+    pub open-bare : not b ≡ true → Opens es s fs (Err (Unparseable s.token)) fs
     unfolding token tables_of bind when
     open-bare e R ns st ts ls ws goal room x xs d p h =
         let q : not (bare (edges_of es) s.node.0) ≡ false = failed l e in
-        record { turned = rw (ne_eqb s.node.0 0 z, q); whole = tt }
+        record { turned = rw (z, q); whole = tt }
 
     module _ (e : not b ≡ false) where
-      pub open_full : length fs ≤ s.frames → Opens es s fs (Stop NoFrame) fs
+      pub open_full : length fs ≤ s.frames → Opens es s fs (Err NoFrame) fs
       unfolding token tables_of bind when
       open_full f R ns st ts ls ws goal room x xs d p h =
           let q : not (bare (edges_of es) s.node.0) ≡ true = passed l e in
-          record { turned = rw (ne_eqb s.node.0 0 z, q, stack-length s.frames fs, le-ltb s.frames (length fs) f); whole = tt }
+          record { turned = rw (z, q, stack-length s.frames fs, le-ltb s.frames (length fs) f); whole = tt }
 
       pub open-on : s.frames < length fs → Opens es s fs
-          (On (record { node = record { 0 = 0 }; frames = s.frames + 1; trees = s.trees; token = s.token; last = s.token }))
+          (Ok (On (record { node = record { 0 = 0 }; frames = s.frames + 1; trees = s.trees; token = s.token; last = s.token })))
           (set fs s.frames s.node.0)
       unfolding token tables_of bind when
       open-on f R ns st ts ls ws goal room x xs d p h =
           let q : not (bare (edges_of es) s.node.0) ≡ true = passed l e in
           record {
             turned = rw (
-              ne_eqb s.node.0 0 z,
+              z,
               q,
               stack-length s.frames fs,
               lt-ltb s.frames (length fs) f,
@@ -160,20 +153,20 @@ pred-one zero = refl
 pred-one (suc n) = omega arith
 
 module _ (rs es ts : List ℕ) (room : ℕ) (s : At) (fs ls ws : List ℕ) where
-  pub branch-ended : length ts ≤ s.token → Branches rs es ts room s fs ls ws (Stop (TooShort (s.token - 1))) fs ls ws
+  pub branch-ended : length ts ≤ s.token → Branches rs es ts room s fs ls ws (Err (TooShort (s.token - 1))) fs ls ws
   unfolding branch
   branch-ended h ns st goal = record { turned = rw (drop_of_length-le ts {i = s.token} h, pred-one s.token); whole = tt }
 
   -- at a token
-  module _ (p : Placed s ts fs) (i : formula.Inside room s.trees ls ws) (h : s.token < length ts) {f : Found}
+  module _ (p : Placed s ts fs) (i : formula.Inside room s.trees ls ws) (h : s.token < length ts) {f : Held ℕ}
       (l : f ≡ looks_up es s.node.0 0 (get_or ts s.token 0)) where
-    pub branch-open : f ≡ found.Nothing → {r : declared.Turn} {fs' : List ℕ} → Opens es s fs r fs' → Branches rs es ts room s fs ls ws r fs' ls ws
+    pub branch-open : f ≡ None → {r : Result Step Why} {fs' : List ℕ} → Opens es s fs r fs' → Branches rs es ts room s fs ls ws r fs' ls ws
     unfolding branch tables_of
     branch-open e g ns st goal =
         let d = drop-cons ts s.token 0 h in
         rw (d, none_found es s.node.0 0 (get_or ts s.token 0) l e) (rw d at (g (the_rules rs) ns st ts ls ws goal room _ _ d p i))
 
-    pub branch-taken : (row : ℕ) → f ≡ Row row → {r : declared.Turn} {ls' ws' : List ℕ}
+    pub branch-taken : (row : ℕ) → f ≡ Some row → {r : Result Step Why} {ls' ws' : List ℕ}
         → Follows rs room (edge_of (row_at es row))
         (record { node = s.node; frames = s.frames; trees = s.trees; token = s.token + 1; last = s.token }) ls ws r ls' ws'
         → Branches rs es ts room s fs ls ws r fs ls' ws'
@@ -188,7 +181,7 @@ module _ (rs : List ℕ) (goal : ℕ) (ts : List ℕ) (us : held.Trees) (ls ws :
   one-tree : length (formula.trees_of us ls ws) ≡ us.count
   one-tree = trees-count i.0 us ls ws i.1
 
-  pub finish-few : (us.count ≡ 1 → ⊥) → Finishes rs goal ts us ls ws (Stop Misfit) ws
+  pub finish-few : (us.count ≡ 1 → ⊥) → Finishes rs goal ts us ls ws (Err Misfit) ws
   unfolding finish bind when
   finish-few z ns es fs room = record { turned = rw (one-tree, ne_eqb us.count 1 z); whole = tt }
 
@@ -197,11 +190,11 @@ module _ (rs : List ℕ) (goal : ℕ) (ts : List ℕ) (us : held.Trees) (ls ws :
     checked : b ≡ check (the_rules rs) goal (drop 1 ts) (flat (formula.trees_of us ls ws))
     checked = rw i.1.list (rw (part-all ts 1, sub-zero us.len) at c)
 
-    pub finish-fails : not b ≡ true → Finishes rs goal ts us ls ws (Stop Misfit) ws'
+    pub finish-fails : not b ≡ true → Finishes rs goal ts us ls ws (Err Misfit) ws'
     unfolding finish bind when tables_of
     finish-fails e ns es fs room = record { turned = rw (one-tree, eq-eqb us.count 1 one, failed checked e); whole = tt }
 
-    pub finish-ends : not b ≡ false → Finishes rs goal ts us ls ws (End us.len) ws'
+    pub finish-ends : not b ≡ false → Finishes rs goal ts us ls ws (Ok (End us.len)) ws'
     unfolding finish bind when tables_of
     finish-ends e ns es fs room = record {
       turned = rw (one-tree, eq-eqb us.count 1 one, passed checked e, i.1.list);
@@ -210,15 +203,15 @@ module _ (rs : List ℕ) (goal : ℕ) (ts : List ℕ) (us : held.Trees) (ls ws :
 
 -- ---- a tree that is complete and not wanted
 
-module _ (rs es ts : List ℕ) (p : Stand) (ls ws : List ℕ) {r : declared.Turn} {ls' ws' : List ℕ} (t : ℕ) where
+module _ (rs es ts : List ℕ) (p : Stand) (ls ws : List ℕ) {r : Result Step Why} {ls' ws' : List ℕ} (t : ℕ) where
   pub unwanted-token : p.at.token < length ts → Roots rs es p.room t p.at ls ws r ls' ws' → Unwanted rs es ts p ls ws r ls' ws' t
   unfolding unwanted
   unwanted-token h g ns fs q =
       let d = drop-cons ts p.at.token 0 h in
       rw d (rw d at (g ns (drop 1 ts) ts fs p.goal.0 q.placed))
 
-  module _ (h : length ts ≤ p.at.token) {k : Chosen} (l : Chooses es p.wish (the_rules rs) t k) where
-    pub unwanted-none : k ≡ Nothing → Roots rs es p.room t p.at ls ws r ls' ws' → Unwanted rs es ts p ls ws r ls' ws' t
+  module _ (h : length ts ≤ p.at.token) {k : Held chosen.Choice} (l : Chooses es p.wish (the_rules rs) t k) where
+    pub unwanted-none : k ≡ None → Roots rs es p.room t p.at ls ws r ls' ws' → Unwanted rs es ts p ls ws r ls' ws' t
     unfolding unwanted convert_by tables_of
     unwanted-none e g ns fs q =
         let d = drop_of_length-le ts {i = p.at.token} h in
@@ -226,7 +219,7 @@ module _ (rs es ts : List ℕ) (p : Stand) (ls ws : List ℕ) {r : declared.Turn
         rw e at (l (the_rules rs) ns (drop 1 ts) p.goal.0 (stack p.at.frames fs) q.wish) in
         rw (d, ← o) (rw d at (g ns (drop 1 ts) ts fs p.goal.0 q.placed))
 
-    pub unwanted-by : (c : chosen.Choice) → k ≡ By c → Closes rs es ts p ls ws r ls' ws' (choice_of c) → Unwanted rs es ts p ls ws r ls' ws' t
+    pub unwanted-by : (c : chosen.Choice) → k ≡ Some c → Closes rs es ts p ls ws r ls' ws' (choice_of c) → Unwanted rs es ts p ls ws r ls' ws' t
     unfolding unwanted convert_by tables_of
     unwanted-by c e g ns fs q =
         let d = drop_of_length-le ts {i = p.at.token} h in
@@ -249,14 +242,14 @@ module _ {ts : List ℕ} {p : Stand} {fs : List ℕ} (q : Stood p ts fs) where
   none_left : Bare p.wish → stack p.at.frames fs ≡ []
   none_left b = bare-none p.wish p.goal.0 (stack p.at.frames fs) b q.wish
 
-module _ (rs es ts : List ℕ) (p : Stand) (ls ws : List ℕ) {r : declared.Turn} {ls' ws' : List ℕ} (t : ℕ) where
+module _ (rs es ts : List ℕ) (p : Stand) (ls ws : List ℕ) {r : Result Step Why} {ls' ws' : List ℕ} (t : ℕ) where
   -- with a frame
-  module _ (top : NodeNo) (w : p.wish ≡ Frame top) {f : Found} (l : f ≡ looks_up es top.0 1 t) where
-    pub pop-none : f ≡ found.Nothing → Unwanted rs es ts p ls ws r ls' ws' t → Completes rs es ts p ls ws r ls' ws' t
+  module _ (top : NodeNo) (w : p.wish ≡ Frame top) {f : Held ℕ} (l : f ≡ looks_up es top.0 1 t) where
+    pub pop-none : f ≡ None → Unwanted rs es ts p ls ws r ls' ws' t → Completes rs es ts p ls ws r ls' ws' t
     unfolding complete pop_by tables_of
     pop-none e g ns fs q = let d = on-top q top w in rw (d, none_found es top.0 1 t l e) (rw d at (g ns fs q))
 
-    pub pop-row : (row : ℕ) → f ≡ Row row → Follows rs p.room (edge_of (row_at es row)) (under p.at) ls ws r ls' ws'
+    pub pop-row : (row : ℕ) → f ≡ Some row → Follows rs p.room (edge_of (row_at es row)) (under p.at) ls ws r ls' ws'
         → Completes rs es ts p ls ws r ls' ws' t
     unfolding complete pop_by follow tables_of
     pop-row row e g ns fs q =
@@ -266,24 +259,24 @@ module _ (rs es ts : List ℕ) (p : Stand) (ls ws : List ℕ) {r : declared.Turn
 
   -- without
   module _ (b : Bare p.wish) where
-    pub bottom-other : (t ≡ p.goal.0 → ⊥) → Unwanted rs es ts p ls ws r ls' ws' t → Completes rs es ts p ls ws r ls' ws' t
+    pub bottom-other : eqb t p.goal.0 ≡ false → Unwanted rs es ts p ls ws r ls' ws' t → Completes rs es ts p ls ws r ls' ws' t
     unfolding complete goal_by
-    bottom-other h g ns fs q = let d = none_left q b in rw (d, ne_eqb t p.goal.0 h) (rw d at (g ns fs q))
+    bottom-other h g ns fs q = let d = none_left q b in rw (d, h) (rw d at (g ns fs q))
 
-    pub bottom-token : t ≡ p.goal.0 → p.at.token < length ts → Roots rs es p.room t p.at ls ws r ls' ws'
+    pub bottom-token : eqb t p.goal.0 ≡ true → p.at.token < length ts → Roots rs es p.room t p.at ls ws r ls' ws'
         → Completes rs es ts p ls ws r ls' ws' t
     unfolding complete goal_by
     bottom-token e h g ns fs q =
         let d = none_left q b in
         let k = drop-cons ts p.at.token 0 h in
-        rw (d, eq-eqb t p.goal.0 e, k) (rw (d, k) at (g ns (drop 1 ts) ts fs p.goal.0 q.placed))
+        rw (d, e, k) (rw (d, k) at (g ns (drop 1 ts) ts fs p.goal.0 q.placed))
 
 -- the goal, and no token left
-pub bottom-ends : (rs es ts : List ℕ) (p : Stand) (ls ws : List ℕ) {r : declared.Turn} {ws' : List ℕ} (t : ℕ) → Bare p.wish → t ≡ p.goal.0
+pub bottom-ends : (rs es ts : List ℕ) (p : Stand) (ls ws : List ℕ) {r : Result Step Why} {ws' : List ℕ} (t : ℕ) → Bare p.wish → eqb t p.goal.0 ≡ true
     → length ts ≤ p.at.token → Finishes rs p.goal.0 ts p.at.trees ls ws r ws' → Completes rs es ts p ls ws r ls ws' t
 unfolding complete goal_by
 bottom-ends rs es ts p ls ws t b e h g ns fs q =
-    rw (none_left q b, eq-eqb t p.goal.0 e, drop_of_length-le ts {i = p.at.token} h) (g ns es fs p.room)
+    rw (none_left q b, e, drop_of_length-le ts {i = p.at.token} h) (g ns es fs p.room)
 
 -- ---- a pass at a leaf
 
@@ -335,13 +328,6 @@ module _ (T : Tables) (goal : ℕ) (st : List ℕ) (m : Room) (s : State) (us : 
   complete-other t [] vs = goal_by-other t vs _ _
   complete-other t (f ∷ fs) vs = pop_by-other t vs fs _
 
--- where a rule starts, or that there is none
-pub starts-at : (ws : List ℕ) (n : ℕ) {r : Start} → rules.Found ws n r → (i : ℕ) → r ≡ start.At i → Starts ws n i
-starts-at ws n f i e = rw e at f
-
-pub is-missing : (ws : List ℕ) (n : ℕ) {r : Start} → rules.Found ws n r → r ≡ start.Nothing → Missing ws n
-is-missing ws n f e = rw e at f
-
 -- it stands there with the trees that a reduce left, too
 stood-with : {p : Stand} {ts fs : List ℕ} → Stood p ts fs → (us : held.Trees) → Stood (stand_at p (with_trees p.at us)) ts fs
 stood-with q us =
@@ -349,19 +335,18 @@ stood-with q us =
     record { placed = record { begun = n.begun; token = n.token; frames = n.frames }; wish = q.wish }
 
 -- and is ready there
-pub ready_with : {rs is es js ts : List ℕ} {p : Stand} {ls ws : List ℕ} → Ready rs is es js ts p ls ws → {r : Reduced} {ls' ws' : List ℕ} {o : Res Why Trees}
-    → formula.Gives p.room r ls' ws' o → (us : held.Trees) → r ≡ Done us → Ready rs is es js ts (stand_at p (with_trees p.at us)) ls' ws'
-ready_with h g us e = record {
-  fit = h.fit;
+pub ready_with : {ts : List ℕ} {p : Stand} {ls ws : List ℕ} → Ready ts p ls ws → {ls' ws' : List ℕ} {o : Res reasons.Why Trees}
+    → (us : held.Trees) → formula.Gives p.room (Ok us) ls' ws' o → Ready ts (stand_at p (with_trees p.at us)) ls' ws'
+ready_with h us g = record {
   short = h.short;
   begun = h.begun;
   token = h.token;
   framed = h.framed;
-  inside = rw e at g.inside;
+  inside = g.inside;
 }
 
 -- the conversion
-module _ (rs es ts : List ℕ) (p : Stand) (ls ws : List ℕ) {r : declared.Turn} {ws' : List ℕ} (t : ℕ) where
+module _ (rs es ts : List ℕ) (p : Stand) (ls ws : List ℕ) {r : Result Step Why} {ws' : List ℕ} (t : ℕ) where
   pub converted-ends : Bare p.wish → Finishes rs p.goal.0 ts p.at.trees ls ws r ws' → Converted rs es ts p ls ws r ls ws' t
   unfolding converted
   converted-ends b g ns fs q = rw (none_left q b) (g ns es fs p.room)
@@ -377,49 +362,38 @@ module _ (rs es ts : List ℕ) (p : Stand) (ls ws : List ℕ) {r : declared.Turn
       let s : State = record { node = p.at.node.0; frames = top.0 ∷ gs; trees = us; rest = drop p.at.token ts; at = p.at.token; last = p.at.last } in
       rw (on-top q top w, step_by-other (tables rs ns es) p.goal.0 (drop 1 ts) (room_of p.room fs) s gs us gs us (find (edges_of es) top.0 1 t)) v
 
-module _ (rs es ts : List ℕ) (p : Stand) (ls ws : List ℕ) (k : Choice) {r : Reduced} {ls' ws' : List ℕ}
-    (g : formula.Gives p.room r ls' ws' (reduce (the_rules rs) p.room k.rule 0 (formula.trees_of p.at.trees ls ws))) where
-  abbrev reduced : Res Why Trees
+module _ (rs es ts : List ℕ) (p : Stand) (ls ws : List ℕ) (k : Choice) where
+  abbrev reduced : Res reasons.Why Trees
   reduced = reduce (the_rules rs) p.room k.rule 0 (formula.trees_of p.at.trees ls ws)
 
-  pub close-done : (us : held.Trees) → r ≡ Done us → {w : declared.Turn} {ls'' ws'' : List ℕ}
+  pub close-done : {ls' ws' : List ℕ} (us : held.Trees) → formula.Gives p.room (Ok us) ls' ws' reduced → {w : Result Step Why} {ls'' ws'' : List ℕ}
       → Converted rs es ts (stand_at p (with_trees p.at us)) ls' ws' w ls'' ws'' k.to → Closes rs es ts p ls ws w ls'' ws'' k
   unfolding convert_by bind tables_of
-  close-done us e h ns fs q =
-      let o : ok (formula.trees_of us ls' ws') ≡ reduced = rw e at g.outcome in
+  close-done {ls'} {ws'} us g h ns fs q =
       let c = converted-other (tables rs ns es) p.goal.0 (drop 1 ts) (room_of p.room fs) (state_of p.at ts fs ls ws) (formula.trees_of us ls' ws') k.to (stack p.at.frames fs) (formula.trees_of us ls' ws') in
-      rw (← o, c) (h ns fs (stood-with q us))
+      rw (← g.outcome, c) (h ns fs (stood-with q us))
 
-  pub close-few : r ≡ TooFew → Closes rs es ts p ls ws (Stop Misfit) ls' ws' k
+  pub close-refused : {ls' ws' : List ℕ} (u : Unfit) → formula.Gives p.room (Err u) ls' ws' reduced → Closes rs es ts p ls ws (Err (refusal u)) ls' ws' k
   unfolding convert_by bind tables_of
-  close-few e ns fs q = let o : no misfit ≡ reduced = rw e at g.outcome in record { turned = rw (← o); whole = tt }
-
-  pub close-full : r ≡ Full → Closes rs es ts p ls ws (Stop NoEntry) ls' ws' k
-  unfolding convert_by bind tables_of
-  close-full e ns fs q = let o : no no_entry ≡ reduced = rw e at g.outcome in record { turned = rw (← o); whole = tt }
+  close-refused u g ns fs q = record { turned = rw (← g.outcome, refusal-is u); whole = tt }
 
 module _ (rs es ts : List ℕ) (p : Stand) (ls ws : List ℕ) (c : ℕ) where
-  pub leaf-missing : Missing rs c → Leaves rs es ts p ls ws (Stop Misfit) ls ws c
+  pub leaf-missing : Missing rs c → Leaves rs es ts p ls ws (Err Misfit) ls ws c
   unfolding leaf
   leaf-missing h ns fs q = record { turned = rw h.unnamed; whole = tt }
 
-  module _ (i : ℕ) (s : Starts rs c i) {r : Reduced} {ls' ws' : List ℕ}
-      (g : formula.Gives p.room r ls' ws' (reduce (the_rules rs) p.room c 0 (formula.trees_of p.at.trees ls ws))) where
-    abbrev one : Res Why Trees
+  module _ (i : ℕ) (s : Starts rs c i) where
+    abbrev one : Res reasons.Why Trees
     one = reduce (the_rules rs) p.room c 0 (formula.trees_of p.at.trees ls ws)
 
-    pub leaf-done : (us : held.Trees) → r ≡ Done us → {w : declared.Turn} {ls'' ws'' : List ℕ} {t : ℕ} → t ≡ (rule_of (take (length rs - i) (drop i rs))).result
+    pub leaf-done : {ls' ws' : List ℕ} (us : held.Trees) → formula.Gives p.room (Ok us) ls' ws' one → {w : Result Step Why} {ls'' ws'' : List ℕ} {t : ℕ}
+        → t ≡ (rule_of (take (length rs - i) (drop i rs))).result
         → Completes rs es ts (stand_at p (with_trees p.at us)) ls' ws' w ls'' ws'' t → Leaves rs es ts p ls ws w ls'' ws'' c
     unfolding leaf bind tables_of
-    leaf-done us e d h ns fs q =
-        let o : ok (formula.trees_of us ls' ws') ≡ one = rw e at g.outcome in
+    leaf-done {ls'} {ws'} us g d h ns fs q =
         let k = complete-other (tables rs ns es) p.goal.0 (drop 1 ts) (room_of p.room fs) (state_of p.at ts fs ls ws) (formula.trees_of us ls' ws') (rule_of (drop i rs)).result (stack p.at.frames fs) (formula.trees_of us ls' ws') in
-        rw (s.named, ← o, k, ← (rw (part-all rs i) at d)) (h ns fs (stood-with q us))
+        rw (s.named, ← g.outcome, k, ← (rw (part-all rs i) at d)) (h ns fs (stood-with q us))
 
-    pub leaf-few : r ≡ TooFew → Leaves rs es ts p ls ws (Stop Misfit) ls' ws' c
+    pub leaf-refused : {ls' ws' : List ℕ} (u : Unfit) → formula.Gives p.room (Err u) ls' ws' one → Leaves rs es ts p ls ws (Err (refusal u)) ls' ws' c
     unfolding leaf bind tables_of
-    leaf-few e ns fs q = let o : no misfit ≡ one = rw e at g.outcome in record { turned = rw (s.named, ← o); whole = tt }
-
-    pub leaf-full : r ≡ Full → Leaves rs es ts p ls ws (Stop NoEntry) ls' ws' c
-    unfolding leaf bind tables_of
-    leaf-full e ns fs q = let o : no no_entry ≡ one = rw e at g.outcome in record { turned = rw (s.named, ← o); whole = tt }
+    leaf-refused u g ns fs q = record { turned = rw (s.named, ← g.outcome, refusal-is u); whole = tt }

@@ -1,14 +1,12 @@
 -- What the code's own types and buffers stand for, in the terms of the definitions.
-use Rattle.std.specs.Prelude.{ℕ, zero, suc, ◌-◌, ◌≤◌, ◌≡◌, Bool, ◌&&◌, List, [], ◌∷◌}
+use Rattle.std.specs.Prelude.{ℕ, zero, suc, ◌-◌, ◌≤◌, ◌≡◌, Bool, ◌&&◌, List, [], ◌∷◌, Result, Ok, Err, Option as Held, Some, None}
 use Rattle.std.proofs.Math.Option.{Option, none, some}
 use lib.ListN.{length, get_or, take, drop}
-use Rattle.words.specs.Limits.{most_reduces, most_tokens}
+use Rattle.words.specs.Limits.{most_tokens}
 use Rattle.words.specs.Outcome.{Res, ok, no}
 use Rattle.words.specs.Numbers as reasons
 use Rattle.rules.specs.Rules.{Rule, the_rules, rule_at, source}
-use Rattle.rules.specs.Code.{Ruled}
 use Rattle.rows.specs.Rows.{Edge, edges_of, find}
-use Rattle.rows.specs.Code.{Tabled}
 use Rattle.formula.specs.declared.Trees as held
 use Rattle.formula.specs.Code as formula
 use Rattle.walk.specs.Walk.{Tables, tables_of, Room, State, Turn, on, end, Choice, comes_from, wanted, conversion, follow, step_by, root_step, finish, converted, convert_by, unwanted, complete, leaf, token, branch, pass, Walked}
@@ -16,16 +14,15 @@ use Rattle.walk.specs.declared.At.{At}
 use Rattle.walk.specs.declared.Wish.{Wish}
 use Rattle.walk.specs.declared.Wish.TheVariants.{Goal, Frame}
 use Rattle.walk.specs.declared.Stand.{Stand}
-use Rattle.walk.specs.declared.Node.{Node}
-use Rattle.walk.specs.declared.Node.TheVariants.{Branch, Leaf}
-use Rattle.walk.specs.declared.Why.{Why}
-use Rattle.walk.specs.declared.Why.TheVariants.{Unparseable, TooShort, Misfit, NoFrame, NoEntry}
-use Rattle.walk.specs.declared.Turn as declared
-use Rattle.walk.specs.declared.Turn.TheVariants.{On, End, Stop}
+use Rattle.words.specs.declared.RuleNo.{RuleNo}
+use Rattle.walk.specs.declared.refusal.Why.{Why}
+use Rattle.walk.specs.declared.Step.{Step}
+use Rattle.walk.specs.declared.Step.TheVariants.{On, End}
 use Rattle.walk.specs.declared.Walked as answer
+use Rattle.walk.specs.declared.Halted.{Halted}
+use Rattle.words.specs.Code.{code}
 use Rattle.walk.specs.declared.Choice as chosen
-use Rattle.walk.specs.declared.Chosen.{Chosen}
-use Rattle.walk.specs.declared.Chosen.TheVariants.{By, Nothing}
+use Rattle.walk.specs.Refused.{why_of}
 
 -- the tables that the words say
 abbrev pub tables : List ℕ → List ℕ → List ℕ → Tables
@@ -49,17 +46,10 @@ state_of s ts fs ls ws = record {
   last = s.last;
 }
 
-abbrev pub why_of : Why → reasons.Why
-why_of (Unparseable p) = reasons.unparseable p
-why_of (TooShort p) = reasons.too_short p
-why_of Misfit = reasons.misfit
-why_of NoFrame = reasons.no_frame
-why_of NoEntry = reasons.no_entry
-
-abbrev pub turn_of : declared.Turn → List ℕ → List ℕ → List ℕ → List ℕ → Res reasons.Why Turn
-turn_of (On s) ts fs ls ws = ok (on (state_of s ts fs ls ws))
-turn_of (End n) ts fs ls ws = ok (end (take n ls))
-turn_of (Stop y) ts fs ls ws = no (why_of y)
+abbrev pub turn_of : Result Step Why → List ℕ → List ℕ → List ℕ → List ℕ → Res reasons.Why Turn
+turn_of (Ok (On s)) ts fs ls ws = ok (on (state_of s ts fs ls ws))
+turn_of (Ok (End n)) ts fs ls ws = ok (end (take n ls))
+turn_of (Err y) ts fs ls ws = no (why_of y)
 
 -- ---- what lies within the buffers
 
@@ -70,23 +60,15 @@ pub record Placed (s : At) (ts fs : List ℕ) : Type 0 where
   pub frames : s.frames ≤ length fs
 
 -- a state that goes on is placed, its trees in order; a list that ends the walk is in the slice, and its length is one word
-abbrev pub Whole : ℕ → declared.Turn → List ℕ → List ℕ → List ℕ → List ℕ → Type 0
-Whole room (On s) ts fs ls ws = Placed s ts fs × formula.Inside room s.trees ls ws
-Whole room (End n) ts fs ls ws = (n ≤ length ls) × (n ≤ formula.most_room)
-Whole room (Stop y) ts fs ls ws = Unit {0}
+abbrev pub Whole : ℕ → Result Step Why → List ℕ → List ℕ → List ℕ → List ℕ → Type 0
+Whole room (Ok (On s)) ts fs ls ws = Placed s ts fs × formula.Inside room s.trees ls ws
+Whole room (Ok (End n)) ts fs ls ws = (n ≤ length ls) × (n ≤ formula.most_room)
+Whole room (Err y) ts fs ls ws = Unit {0}
 
 -- the answer r is the turn o of the definition
-pub record Gives (room : ℕ) (r : declared.Turn) (ts fs ls ws : List ℕ) (o : Res reasons.Why Turn) : Type 0 where
+pub record Gives (room : ℕ) (r : Result Step Why) (ts fs ls ws : List ℕ) (o : Res reasons.Why Turn) : Type 0 where
   pub turned : turn_of r ts fs ls ws ≡ o
   pub whole : Whole room r ts fs ls ws
-
--- ---- what a walk asks of its tables
-
--- good rules and good rows, each with an index, and an edge that is found has at most five reduces
-pub record Fit (rs is es js : List ℕ) : Type 0 where
-  pub rules : Ruled rs is
-  pub rows : Tabled es js
-  pub slim : (n k t : ℕ) (e : Edge) → find (edges_of es) n k t ≡ some e → length e.reduces ≤ most_reduces
 
 -- ---- what a pass goes by
 
@@ -111,8 +93,7 @@ pub record Stood (p : Stand) (ts fs : List ℕ) : Type 0 where
   pub wish : p.wish ≡ wish_of p.goal.0 (stack p.at.frames fs)
 
 -- what every pass starts from, but for its frames
-pub record Ready (rs is es js ts : List ℕ) (p : Stand) (ls ws : List ℕ) : Type 0 where
-  pub fit : Fit rs is es js
+pub record Ready (ts : List ℕ) (p : Stand) (ls ws : List ℕ) : Type 0 where
   pub short : length ts ≤ most_tokens
   pub begun : 1 ≤ p.at.token
   pub token : p.at.token ≤ length ts
@@ -152,29 +133,29 @@ Converts es w q t b = (R : List Rule) (ns st : List ℕ) (goal : ℕ) (fs : List
 abbrev pub choice_of : chosen.Choice → Choice
 choice_of k = record { rule = k.rule.0; to = k.to.0 }
 
-abbrev pub chosen_of : Chosen → Option Choice
-chosen_of (By k) = some (choice_of k)
-chosen_of Nothing = none
+abbrev pub chosen_of : Held chosen.Choice → Option Choice
+chosen_of (Some k) = some (choice_of k)
+chosen_of None = none
 
 -- the first conversion from t to a wanted typecode
-abbrev pub Chooses : List ℕ → Wish → List Rule → ℕ → Chosen → Type 0
+abbrev pub Chooses : List ℕ → Wish → List Rule → ℕ → Held chosen.Choice → Type 0
 Chooses es w qs t r = (R : List Rule) (ns st : List ℕ) (goal : ℕ) (fs : List ℕ) → w ≡ wish_of goal fs
     → chosen_of r ≡ conversion (tables_of R ns (edges_of es)) goal st qs 1 fs t
 
 -- ---- the parts of a pass. What a part does not read is whatever it is; ls and ws are the list and work slices before, ls' and ws' after
 
 -- the edge e is followed from s
-abbrev pub Follows : List ℕ → ℕ → Edge → At → List ℕ → List ℕ → declared.Turn → List ℕ → List ℕ → Type 0
+abbrev pub Follows : List ℕ → ℕ → Edge → At → List ℕ → List ℕ → Result Step Why → List ℕ → List ℕ → Type 0
 Follows rs room e s ls ws r ls' ws' = (ns es st ts fs : List ℕ) (goal : ℕ) → Placed s ts fs → Gives room r ts fs ls' ws'
     (follow (tables rs ns es) goal st (room_of room fs) (stack s.frames fs) (state_of s ts fs ls ws) e (formula.trees_of s.trees ls ws))
 
 -- the variable edge of node n for t is followed from s
-abbrev pub Steps : List ℕ → List ℕ → ℕ → ℕ → ℕ → At → List ℕ → List ℕ → declared.Turn → List ℕ → List ℕ → Type 0
+abbrev pub Steps : List ℕ → List ℕ → ℕ → ℕ → ℕ → At → List ℕ → List ℕ → Result Step Why → List ℕ → List ℕ → Type 0
 Steps rs es room n t s ls ws r ls' ws' = (ns st ts fs : List ℕ) (goal : ℕ) → Placed s ts fs → Gives room r ts fs ls' ws'
     (step_by (tables rs ns es) goal st (room_of room fs) (stack s.frames fs) (state_of s ts fs ls ws) (formula.trees_of s.trees ls ws) (find (edges_of es) n 1 t))
 
 -- the root step for t
-abbrev pub Roots : List ℕ → List ℕ → ℕ → ℕ → At → List ℕ → List ℕ → declared.Turn → List ℕ → List ℕ → Type 0
+abbrev pub Roots : List ℕ → List ℕ → ℕ → ℕ → At → List ℕ → List ℕ → Result Step Why → List ℕ → List ℕ → Type 0
 Roots rs es room t s ls ws r ls' ws' = (ns st ts fs : List ℕ) (goal : ℕ) → Placed s ts fs → Gives room r ts fs ls' ws'
     (root_step (tables rs ns es) goal st (room_of room fs) (state_of s ts fs ls ws) t (formula.trees_of s.trees ls ws))
 
@@ -183,24 +164,24 @@ abbrev pub Lies : held.Trees → List ℕ → List ℕ → Type 0
 Lies us ls ws = (room : ℕ) × formula.Inside room us ls ws
 
 -- the trees finish the walk of the tokens ts
-abbrev pub Finishes : List ℕ → ℕ → List ℕ → held.Trees → List ℕ → List ℕ → declared.Turn → List ℕ → Type 0
+abbrev pub Finishes : List ℕ → ℕ → List ℕ → held.Trees → List ℕ → List ℕ → Result Step Why → List ℕ → Type 0
 Finishes rs goal ts us ls ws r ws' = (ns es fs : List ℕ) (room : ℕ) → Gives room r ts fs ls ws'
     (finish (tables rs ns es) goal (drop 1 ts) (formula.trees_of us ls ws))
 
 -- no constant edge: the node becomes a frame; x is the token at hand
-abbrev pub Opens : List ℕ → At → List ℕ → declared.Turn → List ℕ → Type 0
+abbrev pub Opens : List ℕ → At → List ℕ → Result Step Why → List ℕ → Type 0
 Opens es s fs r fs' = (R : List Rule) (ns st ts ls ws : List ℕ) (goal room x : ℕ) (xs : List ℕ) → drop s.token ts ≡ x ∷ xs → Placed s ts fs
     → formula.Inside room s.trees ls ws
     → Gives room r ts fs' ls ws (token (tables_of R ns (edges_of es)) goal st (room_of room fs) (state_of s ts fs ls ws) x xs none)
 
 -- a pass at a branch
-abbrev pub Branches : List ℕ → List ℕ → List ℕ → ℕ → At → List ℕ → List ℕ → List ℕ → declared.Turn → List ℕ → List ℕ → List ℕ → Type 0
+abbrev pub Branches : List ℕ → List ℕ → List ℕ → ℕ → At → List ℕ → List ℕ → List ℕ → Result Step Why → List ℕ → List ℕ → List ℕ → Type 0
 Branches rs es ts room s fs ls ws r fs' ls' ws' = (ns st : List ℕ) (goal : ℕ)
     → Gives room r ts fs' ls' ws' (branch (tables rs ns es) goal st (room_of room fs) (state_of s ts fs ls ws) (drop s.token ts))
 
 -- ---- a pass at a leaf, over whatever nodes and frames
 
-module _ (rs es ts : List ℕ) (p : Stand) (ls ws : List ℕ) (r : declared.Turn) (ls' ws' : List ℕ) where
+module _ (rs es ts : List ℕ) (p : Stand) (ls ws : List ℕ) (r : Result Step Why) (ls' ws' : List ℕ) where
   -- a conversion to t is reduced
   abbrev pub Converted : ℕ → Type 0
   Converted t = (ns fs : List ℕ) → Stood p ts fs → Gives p.room r ts fs ls' ws'
@@ -229,12 +210,12 @@ module _ (rs es ts : List ℕ) (p : Stand) (ls ws : List ℕ) (r : declared.Turn
 -- ---- passes
 
 -- a node's word: 0 for a branch, else the leaf's rule
-abbrev pub node_is : ℕ → Node
-node_is zero = Branch
-node_is (suc c) = Leaf (record { 0 = suc c })
+abbrev pub node_is : ℕ → Held RuleNo
+node_is zero = None
+node_is (suc c) = Some (record { 0 = suc c })
 
 -- one pass
-abbrev pub Passes : List ℕ → List ℕ → List ℕ → ℕ → List ℕ → ℕ → At → List ℕ → List ℕ → List ℕ → declared.Turn → List ℕ → List ℕ → List ℕ → Type 0
+abbrev pub Passes : List ℕ → List ℕ → List ℕ → ℕ → List ℕ → ℕ → At → List ℕ → List ℕ → List ℕ → Result Step Why → List ℕ → List ℕ → List ℕ → Type 0
 Passes rs ns es goal ts room s fs ls ws r fs' ls' ws' =
     Gives room r ts fs' ls' ws' (pass (tables rs ns es) goal (drop 1 ts) (room_of room fs) (state_of s ts fs ls ws))
 
@@ -248,12 +229,23 @@ pub record Lent (room l w : ℕ) : Type 0 where
   pub work : room ≤ w
   pub words : room ≤ formula.most_room
 
--- what is given back, with the list in its slice
-abbrev pub walked_of : answer.Walked → List ℕ → Walked
+-- what is given back, as numbers
+pub record Answer : Type 0 where
+  pub number : ℕ
+  pub place : ℕ
+  pub length : ℕ
+  pub passes : ℕ
+
+abbrev pub answer_of : Result answer.Walked Halted → Answer
+answer_of (Ok w) = record { number = reasons.accepted; place = 0; length = w.length; passes = w.passes }
+answer_of (Err h) = record { number = code h.why; place = h.place; length = 0; passes = h.passes }
+
+-- with the list in its slice
+abbrev pub walked_of : Answer → List ℕ → Walked
 walked_of w ls = record { number = w.number; place = w.place; list = take w.length ls; passes = w.passes }
 
 -- the answer is o, its list in the slice
-pub record Answers (w : answer.Walked) (ls : List ℕ) (o : Walked) : Type 0 where
+pub record Answers (w : Answer) (ls : List ℕ) (o : Walked) : Type 0 where
   pub walked : walked_of w ls ≡ o
   pub length : w.length ≡ lib.ListN.length o.list
   pub within : w.length ≤ lib.ListN.length ls

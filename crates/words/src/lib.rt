@@ -1,4 +1,4 @@
-// The limits, the numbers given back, one type for each kind of number, and writing to a lent slice.
+// The limits, the refusals, one type for each kind of number, and writing to a lent slice.
 #![tactic(auto)]
 
 ghost use Rattle.std.specs.Prelude.{◌≡◌, ◌+◌, ◌≤◌, ◌<◌, length};
@@ -28,90 +28,134 @@ pub const MOST_TAKEN: usize = 16384;
 // The words of an edge.
 pub const ROW_WIDTH: usize = 16;
 
-// The numbers given back.
+// The number given back where nothing is refused.
 pub const ACCEPTED: u32 = 0;
 
-pub const TOO_FEW_TOKENS: u32 = 1;
+// Why something is refused. Each is given back as its number.
+#[derive(Clone, Copy, PartialEq, Eq)]
+pub enum Refusal {
+    TooFewTokens = 1,
+    Unparseable = 2,
+    TooShort = 3,
+    Misfit = 4,
+    NoPass = 5,
+    NoFrame = 6,
+    // A slice lent is too short.
+    NoRoom = 7,
+    BadTables = 8,
+    TooManyTokens = 9,
+    BadRules = 10,
+    Collides = 11,
+    NoNode = 12,
+    NoEdge = 13,
+    SixthReduce = 14,
+    FarOffset = 15,
+    BadCopy = 16,
+    ManyRows = 17,
+    // Of a package: the four below.
+    CutShort = 20,
+    UnknownKind = 21,
+    // Of a body, and of counted words whose count passes their end.
+    WrongSize = 22,
+    WrongOrder = 23,
+}
 
-pub const UNPARSEABLE: u32 = 2;
+impl From<Refusal> for u32 {
+    ghost use Rattle.words.specs.Code.{code_is};
 
-pub const TOO_SHORT: u32 = 3;
+    ghost from_gives = { code_is };
 
-pub const MISFIT: u32 = 4;
+    fn from(y: Refusal) -> u32 {
+        y as u32
+    }
+}
 
-pub const NO_PASS: u32 = 5;
+// A number that no refusal has.
+#[derive(Clone, Copy, PartialEq, Eq)]
+pub struct NoRefusal(pub u32);
 
-pub const NO_FRAME: u32 = 6;
+impl TryFrom<u32> for Refusal {
+    type Error = NoRefusal;
 
-// A slice lent is too short.
-pub const NO_ROOM: u32 = 7;
+    ghost use Rattle.words.specs.Code.{refusal_is};
 
-pub const NO_ENTRY: u32 = NO_ROOM;
+    ghost try_from_gives = { refusal_is };
 
-pub const BAD_TABLES: u32 = 8;
+    fn try_from(n: u32) -> Result<Refusal, NoRefusal> {
+        match n {
+            1 => Ok(Refusal::TooFewTokens),
+            2 => Ok(Refusal::Unparseable),
+            3 => Ok(Refusal::TooShort),
+            4 => Ok(Refusal::Misfit),
+            5 => Ok(Refusal::NoPass),
+            6 => Ok(Refusal::NoFrame),
+            7 => Ok(Refusal::NoRoom),
+            8 => Ok(Refusal::BadTables),
+            9 => Ok(Refusal::TooManyTokens),
+            10 => Ok(Refusal::BadRules),
+            11 => Ok(Refusal::Collides),
+            12 => Ok(Refusal::NoNode),
+            13 => Ok(Refusal::NoEdge),
+            14 => Ok(Refusal::SixthReduce),
+            15 => Ok(Refusal::FarOffset),
+            16 => Ok(Refusal::BadCopy),
+            17 => Ok(Refusal::ManyRows),
+            20 => Ok(Refusal::CutShort),
+            21 => Ok(Refusal::UnknownKind),
+            22 => Ok(Refusal::WrongSize),
+            23 => Ok(Refusal::WrongOrder),
+            _ => Err(NoRefusal(n)),
+        }
+    }
+}
 
-pub const TOO_MANY_TOKENS: u32 = 9;
-
-pub const BAD_RULES: u32 = 10;
-
-pub const COLLIDES: u32 = 11;
-
-pub const NO_NODE: u32 = 12;
-
-pub const NO_EDGE: u32 = 13;
-
-pub const SIXTH_REDUCE: u32 = 14;
-
-pub const FAR_OFFSET: u32 = 15;
-
-pub const BAD_COPY: u32 = 16;
-
-pub const MANY_ROWS: u32 = 17;
-
-// The numbers that a package is refused with.
-pub const CUT_SHORT: u32 = 20;
-
-pub const UNKNOWN_KIND: u32 = 21;
-// Of a body, and of counted words whose count passes their end.
-pub const WRONG_SIZE: u32 = 22;
-
-pub const WRONG_ORDER: u32 = 23;
-
-#[derive(Clone, Copy)]
+#[derive(Clone, Copy, PartialEq, Eq, PartialOrd, Ord)]
 pub struct RuleNo(pub u32);
 
-#[derive(Clone, Copy)]
+#[derive(Clone, Copy, PartialEq, Eq, PartialOrd, Ord)]
 pub struct NodeNo(pub u32);
 
-#[derive(Clone, Copy)]
+#[derive(Clone, Copy, PartialEq, Eq, PartialOrd, Ord)]
 pub struct SymbolNo(pub u32);
 
-// Counted words: how many lists they are, or the number of the first whose count passes the end.
-#[derive(Clone, Copy)]
-pub enum Lists {
-    Whole(usize),
-    Cut(usize),
+// The number of the first list of counted words whose count passes their end.
+#[derive(Clone, Copy, PartialEq, Eq)]
+pub struct Cut(pub usize);
+
+// A refusal, and the place of what is at fault; 0 where that is nothing that has a place.
+#[derive(Clone, Copy, PartialEq, Eq)]
+pub struct Refused {
+    pub why: Refusal,
+    pub place: usize,
+}
+
+impl From<Refusal> for Refused {
+    ghost from_gives = { λ y r. r ≡ record { why = y; place = 0 } };
+
+    fn from(why: Refusal) -> Refused {
+        Refused { why, place: 0 }
+    }
+}
+
+impl From<Cut> for Refused {
+    ghost use Rattle.words.specs.declared.Refusal.TheVariants.{WrongSize};
+
+    ghost from_gives = { λ k r. r ≡ record { why = WrongSize; place = k.0 } };
+
+    fn from(cut: Cut) -> Refused {
+        Refused {
+            why: Refusal::WrongSize,
+            place: cut.0,
+        }
+    }
 }
 
 // The smaller of two rooms.
+#[tactic(auto, using(crate::proofs::Laws::min_is_lesser))]
 pub fn lesser(a: usize, b: usize) -> usize
     ensures { result ≡ lesser a b }
 {
-    if a <= b {
-        return a;
-    }
-    b
-}
-
-// Every word 0.
-pub fn clear(s: &mut [u32])
-    ensures { s.new ≡ zeros (length s.old) }
-{
-    let mut i = 0;
-    while i < s.len() {
-        s[i] = 0;
-        i += 1;
-    }
+    a.min(b)
 }
 
 // The words from `at` on 0, those before it as they were.
@@ -119,37 +163,16 @@ pub fn clear_from(s: &mut [u32], at: usize)
     requires { at ≤ length s.old }
     ensures { s.new ≡ cleared_from s.old at }
 {
-    clear(&mut s[at..]);
-}
-
-// The same of bytes.
-pub fn clear_bytes(s: &mut [u8])
-    ensures { s.new ≡ zeros (length s.old) }
-{
-    let mut i = 0;
-    while i < s.len() {
-        s[i] = 0;
-        i += 1;
-    }
-}
-
-pub fn clear_bytes_from(s: &mut [u8], at: usize)
-    requires { at ≤ length s.old }
-    ensures { s.new ≡ cleared_from s.old at }
-{
-    clear_bytes(&mut s[at..]);
+    s[at..].fill(0);
 }
 
 // The words from `from` to `to`, the last of them first, come to stand `by` further up.
+#[tactic(auto, using(crate::proofs::Laws::moved_at_once))]
 pub fn move_up(s: &mut [u32], from: usize, to: usize, by: usize)
     requires { (from ≤ to) × (to + by ≤ length s.old) }
     ensures { s.new ≡ moved_up s.old from to by }
 {
-    let mut k = to;
-    while from < k {
-        k -= 1;
-        s[k + by] = s[k];
-    }
+    s.copy_within(from..to, from + by);
 }
 
 // `x` before word `p` of the first `n`, which move up by one from there on.
@@ -162,19 +185,17 @@ pub fn insert(s: &mut [u32], n: usize, p: usize, x: u32)
 }
 
 // The lists of counted words, counted.
-pub fn count_lists(ws: &[u32]) -> Lists
+pub fn count_lists(ws: &[u32]) -> Result<usize, Cut>
     ensures { result ≡ how_many 0 (lists_of ws.now) }
 {
     let mut n = 0;
-    let mut at = 0;
-    while at < ws.len() {
-        let size = ws[at] as usize;
-        at += 1;
-        if ws.len() - at < size {
-            return Lists::Cut(n);
-        }
-        at += size;
+    let mut rest = ws;
+    while let Some((size, after)) = rest.split_first() {
+        let Some((_, others)) = after.split_at_checked(*size as usize) else {
+            return Err(Cut(n));
+        };
+        rest = others;
         n += 1;
     }
-    Lists::Whole(n)
+    Ok(n)
 }

@@ -1,8 +1,9 @@
-use mathlib.Core.Path.{◌∙◌, ap}
+use Rattle.std.proofs.Common.{◌≡◌, length, rules, ◌∙◌, ap}
 use Rattle.words.specs.Lent.{zeros}
 use Rattle.desk.proofs.Laws.{built}
 use Rattle.desk.proofs.build.Goals as goal
 
 pub returns : goal.returns
 returns c =
-    built _ _ _ _ _ _ _ _ c.raise-m.ensures c.clear_from.ensures c.clear_from-2.ensures (c.clear.ensures ∙ ap zeros c.raise-m.auto.frames)
+    let z : c.fill.new.self ≡ zeros (length c.raise.new.frames) = search rules in
+    built _ _ _ _ _ _ _ _ (rw (← c.from-m.ensures) at c.raise.ensures) c.clear_from.ensures c.clear_from-2.ensures (z ∙ ap zeros c.raise.auto.frames)

@@ -1,3 +1,5 @@
+use Rattle.std.proofs.lemmas.Result.{err_from_is_err_and}
+use Rattle.words.specs.Code.{code}
 use mathlib.Core.Path.{sym, ◌∙◌}
 use mathlib.Core.Path.{◌≡◌, refl}
 use mathlib.Core.Bool.{true}
@@ -21,21 +23,20 @@ build-requires c =
 pub overflow_cast-result : goal.overflow_cast-result
 overflow_cast-result c =
     let f = room_fits _ (length c.args.nodes.now) (length c.args.edges.now) c.build_room-room.ensures in
-    let s = (counts-small _ _ _ _ _ _ f.nodes-few f.edges_few c.build.ensures c.in-On.is).0 in
-    omega (arith, s)
+    omega (arith, (counts-small _ _ _ _ _ _ f.nodes-few f.edges_few c.build.ensures c.in_ok-counts.was).0)
 
-pub overflow_cast-result-in-On : goal.overflow_cast-result-in-On
-overflow_cast-result-in-On c =
+pub overflow_cast-result-2 : goal.overflow_cast-result-2
+overflow_cast-result-2 c =
     let f = room_fits _ (length c.args.nodes.now) (length c.args.edges.now) c.build_room-room.ensures in
-    let s = (counts-small _ _ _ _ _ _ f.nodes-few f.edges_few c.build.ensures c.in-On.is).1 in
-    omega (arith, s)
+    omega (arith, (counts-small _ _ _ _ _ _ f.nodes-few f.edges_few c.build.ensures c.in_ok-counts.was).1)
 
-pub returns-in-On : goal.returns-in-On
-returns-in-On c =
+pub returns : goal.returns
+returns c =
     let good : rules_good c.args.codes.provable.0 c.args.codes.logic.0 c.args.rules.now ≡ true = sym c.rules_good.ensures ∙ c.if-not-rules_good.false in
-    raised-on _ _ _ _ _ _ _ good _ c.build_room-room.ensures _ _ _ c.build.auto.nodes c.build.auto.edges c.build.ensures _ c.in-On.is
+    raised-on _ _ _ _ _ _ _ good _ c.build_room-room.ensures _ _ _ c.build.auto.nodes c.build.auto.edges c.build.ensures _ c.in_ok-counts.was
 
-pub returns-in-Refused : goal.returns-in-Refused
-returns-in-Refused c =
+pub returns-in_err-counts : goal.returns-in_err-counts
+returns-in_err-counts c =
     let good : rules_good c.args.codes.provable.0 c.args.codes.logic.0 c.args.rules.now ≡ true = sym c.rules_good.ensures ∙ c.if-not-rules_good.false in
-    raised-refused _ _ _ _ _ _ _ good _ c.build_room-room.ensures _ _ _ c.build.auto.nodes c.build.auto.edges c.build.ensures _ _ c.in-Refused.is c.fault_number.ensures
+    let p = err_from_is_err_and c.from_residual.result c.from_residual.ensures.1 in
+    rw p.1 (raised-refused _ _ _ _ _ _ _ good _ c.build_room-room.ensures _ _ _ c.build.auto.nodes c.build.auto.edges c.build.ensures _ (code p.0) c.in_err-counts.was p.2)

@@ -3,7 +3,7 @@ use Rattle.std.specs.Prelude.{◌≡◌, refl, ℕ, zero, suc, ◌+◌, ◌-◌,
 use Rattle.std.proofs.Common.{sym, ◌∙◌, ap, arith, add-one, take-append-drop, length-append, length-drop, take_at, drop_at, drop-drop, length-take-le, take-add}
 use mathlib.Core.List.{List, [], ◌∷◌, ◌++◌, append_assoc, append-nil, map, map-append, reverse, reverse-append, reverse-cons}
 use Rattle.std.proofs.Math.Nat.{sub-zero}
-use Rattle.std.proofs.lemmas.List.{length-map, length-reverse}
+use Rattle.std.proofs.lemmas.List.{length-map, length-reverse, take-map, drop-map}
 use Rattle.std.proofs.Math.Seq.{append_snoc, take-nil}
 use Rattle.formula.specs.Reducing.{Trees, flat, merge}
 use Rattle.formula.specs.Tail.{total}
@@ -72,28 +72,18 @@ unfolding total flat
 total-sizes [] = refl
 total-sizes (t ∷ s) = rw (length-append (flat s) t) (omega (arith, total-sizes s))
 
-map-take : {A B : Type 0} (f : A → B) (n : ℕ) (xs : List A) → map f (take n xs) ≡ take n (map f xs)
-map-take f zero xs = refl
-map-take f (suc n) [] = refl
-map-take f (suc n) (x ∷ xs) = ap (λ (ys : List _). f x ∷ ys) (map-take f n xs)
-
-map-drop : {A B : Type 0} (f : A → B) (n : ℕ) (xs : List A) → map f (drop n xs) ≡ drop n (map f xs)
-map-drop f zero xs = refl
-map-drop f (suc n) [] = refl
-map-drop f (suc n) (x ∷ xs) = map-drop f n xs
-
 pub sizes-merge : (r k o : ℕ) (s : Trees)
     → sizes (merge r k o s) ≡ take o (sizes s) ++ suc (total (take k (drop o (sizes s)))) ∷ drop (o + k) (sizes s)
 unfolding merge
 sizes-merge r k o s =
     rw (
       map-append length (take o s) ((flat (take k (drop o s)) ++ r ∷ []) ∷ drop (o + k) s),
-      map-take length o s,
-      map-drop length (o + k) s,
+      ← take-map length o s,
+      ← drop-map length (o + k) s,
       length-append (flat (take k (drop o s))) (r ∷ []),
       ← total-sizes (take k (drop o s)),
-      map-take length k (drop o s),
-      map-drop length o s,
+      ← take-map length k (drop o s),
+      ← drop-map length o s,
       add-one (total (take k (drop o (sizes s)))),
     )
 
@@ -150,7 +140,7 @@ stacked-merge r k o a s h =
 -- where the rule goes in, with n trees below the top o: after their words
 pub place-stacked : (n o : ℕ) (s : Trees) → length s ≡ n + o → total (take n (stacked s)) ≡ length (flat (drop o s))
 place-stacked n o s h =
-    rw (← cut-front (sizes s) n o (length-map s length ∙ h), total-reverse (drop o (sizes s)), ← map-drop length o s) (total-sizes (drop o s))
+    rw (← cut-front (sizes s) n o (length-map s length ∙ h), total-reverse (drop o (sizes s)), drop-map length o s) (total-sizes (drop o s))
 
 pub total-split : (n : ℕ) (xs : List ℕ) → total xs ≡ total (take n xs) + total (drop n xs)
 total-split n xs = ap total (sym (take-append-drop n xs)) ∙ total-append (take n xs) (drop n xs)

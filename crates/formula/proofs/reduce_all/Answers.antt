@@ -1,18 +1,9 @@
-use mathlib.Core.Path.{◌≡◌}
-use native.Mathlib.Omega.{arith}
-use borrow.Author.Rules.{rules}
-use lib.ListN.{length}
-use Rattle.rows.specs.Code.{edge_is}
-use Rattle.formula.proofs.Weaving.{reduces-count, all_none, all_one}
+use Rattle.formula.proofs.Weaving.{all_none, all_one}
 use Rattle.formula.proofs.reduce_all.Goals as goal
 
-pub returns-then-e-eq0 : goal.returns-then-e-eq0
-returns-then-e-eq0 c =
-    let count-is : length (edge_is c.args.e).reduces ≡ c.args.e.count = reduces-count c.args.e (search rules) c.requires.2 in
-    all_none _ _ (edge_is c.args.e).reduces _ _ _ c.requires.1 (omega (arith, count-is, c.if-e-eq0.true))
+pub returns-in-empty : goal.returns-in-empty
+returns-in-empty c = rw (← c.as_slice.ensures) (all_none _ _ c.as_slice.result.now _ _ _ c.requires c.in-empty.len_below)
 
-pub returns-then-e-eq1 : goal.returns-then-e-eq1
-returns-then-e-eq1 c =
-    let count-is : length (edge_is c.args.e).reduces ≡ c.args.e.count = reduces-count c.args.e (search rules) c.requires.2 in
-    rw (all_one _ _ (edge_is c.args.e).reduces c.reduce_of-d.result _ (omega (arith, count-is, c.if-e-eq1.true)) c.reduce_of-d.ensures)
-    c.reduce.ensures
+pub returns-in-len1 : goal.returns-in-len1
+returns-in-len1 c =
+    rw (← c.as_slice.ensures, all_one _ _ c.as_slice.result.now (record { rule = record { 0 = 0 }; offset = 0 }) _ c.in-len1.len_at_least c.in-len1.len_below) c.reduce.ensures

@@ -1,8 +1,12 @@
-use Rattle.garden.proofs.Commands.{conversions-are, no-command}
+use Rattle.std.proofs.Common.{arith}
+use Rattle.words.proofs.Theorems.Parts.{part-all}
+use Rattle.garden.proofs.Commands.{conversions-are, conversions-after, no-command}
 use Rattle.garden.proofs.command_of.Goals as goal
 
-pub returns-then-ws-eq2 : goal.returns-then-ws-eq2
-returns-then-ws-eq2 c = (tt, conversions-are c.args.ws.now c.if-ws-eq2.true)
+pub returns-in-2 : goal.returns-in-2
+returns-in-2 c =
+    let ws = c.args.ws.now in
+    (tt, conversions-are ws c.in-2.is, rw (part-all ws 1) (conversions-after ws c.in-2.is))
 
-pub returns : goal.returns
-returns c = (tt, no-command c.args.ws.now c.if-ws-eq2.false c.if-ws-eq1.false)
+pub returns-in_default : goal.returns-in_default
+returns-in_default c = no-command c.args.ws.now (λ e. omega (arith, e)) (λ e. omega (arith, e))

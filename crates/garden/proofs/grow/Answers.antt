@@ -1,3 +1,4 @@
+use Rattle.std.proofs.lemmas.Result.{err_from_is_err_and}
 use lib.ListN.{length}
 use Rattle.rules.specs.Rules.{the_rules}
 use Rattle.garden.specs.Garden.{the_commands}
@@ -6,14 +7,16 @@ use Rattle.garden.proofs.grow.Goals as goal
 
 pub tend-requires : goal.tend-requires
 tend-requires c =
-    (rw c.in-On.is at c.plant-planted.ensures.stands, c.requires.2, c.requires.0)
+    (rw c.in_ok-c.was at c.plant.ensures.stands, c.requires.2, c.requires.0)
 
-pub returns-in-On : goal.returns-in-On
-returns-in-On c =
+pub returns : goal.returns
+returns c =
     all-built c.args.room (length c.args.frames.now) (the_rules c.args.rules.now) (the_commands c.args.commands.now)
-    c.plant-planted.result c.plant-planted.new.nodes c.plant-planted.new.edges c.plant-planted.ensures c.in-On.c c.in-On.is c.tend.result c.tend.new.nodes c.tend.new.edges c.tend.ensures
+    c.plant.result c.plant.new.nodes c.plant.new.edges c.plant.ensures _ c.in_ok-c.was c.tend.result c.tend.new.nodes c.tend.new.edges c.tend.ensures
 
-pub returns-in-Refused : goal.returns-in-Refused
-returns-in-Refused c =
-    none-built c.args.room (length c.args.frames.now) (the_rules c.args.rules.now) (the_commands c.args.commands.now)
-    c.plant-planted.result c.plant-planted.new.nodes c.plant-planted.new.edges c.plant-planted.ensures c.in-Refused.f c.in-Refused.is
+pub returns-in_err-c : goal.returns-in_err-c
+returns-in_err-c c =
+    let p = err_from_is_err_and c.from_residual.result c.from_residual.ensures.1 in
+    rw (p.1, p.2)
+    (none-built c.args.room (length c.args.frames.now) (the_rules c.args.rules.now) (the_commands c.args.commands.now)
+    c.plant.result c.plant.new.nodes c.plant.new.edges c.plant.ensures _ c.in_err-c.was)

@@ -1,49 +1,38 @@
-use mathlib.Core.Path.{sym, ◌∙◌}
-use mathlib.Core.Path.{◌≡◌}
-use mathlib.Core.Bool.{true}
-use native.Mathlib.Omega.{arith}
-use Rattle.garden.specs.Garden.{prefix_words, shadow_words, good_pairs}
-use Rattle.garden.proofs.Commands.{part_of, path-short, path-cut, prefix-bad, shadow-bad, path-is}
+use Rattle.std.proofs.Common.{◌∙◌, sym}
+use Rattle.words.proofs.Theorems.Parts.{part-all}
+use Rattle.garden.proofs.Commands.{path-short, path-cut, prefix-bad, shadow-bad, path-read}
 use Rattle.garden.proofs.path_of.Goals as goal
+use Rattle.garden.proofs.path_of.Goals.{else-good_pairs-via-then-good_pairs+else-good_pairs-2, else-good_pairs-via-else-good_pairs}
 
-pub returns-then-ws-lt3 : goal.returns-then-ws-lt3
-returns-then-ws-lt3 c = (tt, path-short c.args.ws.now c.requires c.if-ws-lt3.true)
+pub returns-in_default : goal.returns-in_default
+returns-in_default c = path-short c.args.ws.now c.requires c.in_default.len_below
 
-pub overflow_cast-p : goal.overflow_cast-p
-overflow_cast-p c = record { fits = omega (arith, c.type_inv.ws 1) }
-
-pub overflow_mul-p : goal.overflow_mul-p
-overflow_mul-p c = record { fits = omega (arith, c.type_inv.ws 1) }
-
-pub overflow_cast-s : goal.overflow_cast-s
-overflow_cast-s c = record { fits = omega (arith, c.type_inv.ws 2) }
-
-pub overflow_mul-s : goal.overflow_mul-s
-overflow_mul-s c = record { fits = omega (arith, c.type_inv.ws 2) }
-
-pub overflow_add-p : goal.overflow_add-p
-overflow_add-p c = record { fits = omega (arith, c.type_inv.ws 1) }
-
-pub overflow_add-p-2 : goal.overflow_add-p-2
-overflow_add-p-2 c = record { fits = omega (arith, c.type_inv.ws 1, c.type_inv.ws 2) }
-
-pub returns-then-ws-p : goal.returns-then-ws-p
-returns-then-ws-p c = (tt, path-cut c.args.ws.now c.requires c.if-ws-lt3.false c.if-ws-p.true)
-
-pub returns-then-not-good_pairs : goal.returns-then-not-good_pairs
-returns-then-not-good_pairs c =
+pub returns-then-words-p : goal.returns-then-words-p
+returns-then-words-p c =
     let ws = c.args.ws.now in
-    (tt, prefix-bad ws c.requires c.if-ws-lt3.false c.if-ws-p.false (rw part_of at (sym c.good_pairs.ensures ∙ c.if-not-good_pairs.true)))
+    path-cut ws c.requires c.in-len3-up.len_at_least (rw (part-all ws 3) at c.if-words-p.true)
 
-pub returns-then-not-good_pairs-2 : goal.returns-then-not-good_pairs-2
-returns-then-not-good_pairs-2 c =
-    let prefix : (let ws = c.args.ws.now in good_pairs (prefix_words ws) ≡ true) = rw part_of at (sym c.good_pairs.ensures ∙ c.if-not-good_pairs.false) in
+pub returns-then-good_pairs-2 : goal.returns-then-good_pairs-2
+returns-then-good_pairs-2 c =
     let ws = c.args.ws.now in
-    (tt, shadow-bad ws c.requires c.if-ws-lt3.false c.if-ws-p.false prefix (rw part_of at (sym c.good_pairs-2.ensures ∙ c.if-not-good_pairs-2.true)))
+    let a = c.split_at in
+    let b = c.split_at-2 in
+    path-read ws c.requires c.in-len3-up.len_at_least (rw (part-all ws 3) at c.if-words-p.false) a.result.0.now a.result.1.now b.result.0.now
+    (rw (part-all ws 3) at a.ensures.front) (rw (part-all ws 3) at a.ensures.back) b.ensures.front
+    (sym c.good_pairs.ensures ∙ c.if-good_pairs.true) (sym c.good_pairs-then-good_pairs.ensures ∙ c.if-good_pairs-2.true) b.result.1.now b.ensures.back
 
 pub returns : goal.returns
 returns c =
-    let prefix : (let ws = c.args.ws.now in good_pairs (prefix_words ws) ≡ true) = rw part_of at (sym c.good_pairs.ensures ∙ c.if-not-good_pairs.false) in
     let ws = c.args.ws.now in
-    let shadow : good_pairs (shadow_words ws) ≡ true = rw part_of at (sym c.good_pairs-2.ensures ∙ c.if-not-good_pairs-2.false) in
-    ((c.if-ws-p.false, prefix, shadow), path-is ws c.requires c.if-ws-lt3.false c.if-ws-p.false prefix shadow)
+    let a = c.split_at in
+    let b = c.split_at-2 in
+    elim c.else-good_pairs.branch [
+      | else-good_pairs-via-then-good_pairs+else-good_pairs-2 w ↦
+          shadow-bad ws c.requires c.in-len3-up.len_at_least (rw (part-all ws 3) at c.if-words-p.false) a.result.0.now a.result.1.now b.result.0.now
+          (rw (part-all ws 3) at a.ensures.front) (rw (part-all ws 3) at a.ensures.back) b.ensures.front
+          (sym c.good_pairs.ensures ∙ w.if-good_pairs.true) (sym w.good_pairs-then-good_pairs.ensures ∙ w.if-good_pairs-2.false)
+      | else-good_pairs-via-else-good_pairs w ↦
+          prefix-bad ws c.requires c.in-len3-up.len_at_least (rw (part-all ws 3) at c.if-words-p.false) a.result.0.now a.result.1.now b.result.0.now
+          (rw (part-all ws 3) at a.ensures.front) (rw (part-all ws 3) at a.ensures.back) b.ensures.front
+          (sym c.good_pairs.ensures ∙ w.if-good_pairs.false)
+    ]

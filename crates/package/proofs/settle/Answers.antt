@@ -1,36 +1,32 @@
-use mathlib.Core.Path.{sym, ◌∙◌}
-use mathlib.Core.Bool.{true, false}
-use Rattle.package.proofs.Reading.{said, settled-scan, short-rules, short-words, rules-fault, settled-refused, settled-read}
+use Rattle.std.proofs.lemmas.Result.{err_from_is_err_and}
+use Rattle.package.proofs.Settling.{Said, said, settled-scan, settled-short, settled-bad, settled-read}
 use Rattle.package.proofs.settle.Goals as goal
+use Rattle.package.proofs.settle.Goals.{In_ok-contents}
 
-pub returns-then-p-ne-ACCEPTED : goal.returns-then-p-ne-ACCEPTED
-returns-then-p-ne-ACCEPTED c =
-    let bs = c.args.bytes.now in
-    rw (← c.scan-p.auto.rules, ← c.scan-p.auto.statements) (settled-scan bs c.scan-p.result c.scan-p.new.rules c.scan-p.new.statements c.scan-p.ensures c.if-p-ne-ACCEPTED.true)
+pub returns-in_err-contents : goal.returns-in_err-contents
+returns-in_err-contents c =
+    let p = err_from_is_err_and c.from_residual.result c.from_residual.ensures.1 in
+    rw (← c.scan.auto.rules, ← c.scan.auto.statements, p.1, p.2)
+    (settled-scan c.args.bytes.now c.in_err-contents.field-0.0 c.scan.new.rules c.scan.new.statements c.in_err-contents.ensures)
 
-pub returns-then-rules-n : goal.returns-then-rules-n
-returns-then-rules-n c =
-    let bs = c.args.bytes.now in
-    let g = said bs c.scan-p.result c.scan-p.new.rules c.scan-p.new.statements c.scan-p.ensures c.if-p-ne-ACCEPTED.false in
-    rw (← c.scan-p.auto.rules, ← c.scan-p.auto.statements) (settled-refused bs c.scan-p.result c.scan-p.new.rules c.scan-p.new.statements 6 c.refused.result g (short-rules bs c.scan-p.result c.scan-p.new.rules c.scan-p.new.statements g c.if-rules-n.true) c.refused.ensures)
+-- no record was refused
+here : (c : In_ok-contents) → Said c.args.bytes.now c.in_ok-contents.contents c.scan.new.rules c.scan.new.statements
+here c = said c.args.bytes.now c.in_ok-contents.contents c.scan.new.rules c.scan.new.statements c.in_ok-contents.ensures
 
-pub returns-then-statements-p : goal.returns-then-statements-p
-returns-then-statements-p c =
-    let bs = c.args.bytes.now in
-    let g = said bs c.scan-p.result c.scan-p.new.rules c.scan-p.new.statements c.scan-p.ensures c.if-p-ne-ACCEPTED.false in
-    rw (← c.scan-p.auto.rules, ← c.scan-p.auto.statements) (settled-refused bs c.scan-p.result c.scan-p.new.rules c.scan-p.new.statements 6 c.refused-then-statements-p.result g
-    (short-words bs c.scan-p.result c.scan-p.new.rules c.scan-p.new.statements g c.if-rules-n.false c.if-statements-p.true) c.refused-then-statements-p.ensures)
+pub returns-then-rules-contents : goal.returns-then-rules-contents
+returns-then-rules-contents c =
+    rw (← c.scan.auto.rules, ← c.scan.auto.statements)
+    (settled-short c.args.bytes.now c.in_ok-contents.contents c.scan.new.rules c.scan.new.statements c.into.result (here (goal.at.returns-then-rules-contents c).In_ok-contents)
+    c.then-rules-contents.either c.into.ensures)
 
 pub returns-then-not-rules_good : goal.returns-then-not-rules_good
 returns-then-not-rules_good c =
-    let bs = c.args.bytes.now in
-    let g = said bs c.scan-p.result c.scan-p.new.rules c.scan-p.new.statements c.scan-p.ensures c.if-p-ne-ACCEPTED.false in
-    rw (← c.scan-p.auto.rules, ← c.scan-p.auto.statements) (settled-refused bs c.scan-p.result c.scan-p.new.rules c.scan-p.new.statements 9 c.refused-then-not-rules_good.result g
-    (rules-fault bs c.scan-p.result c.scan-p.new.rules c.scan-p.new.statements false g c.if-rules-n.false c.if-statements-p.false (sym c.rules_good.ensures ∙ c.if-not-rules_good.true)) c.refused-then-not-rules_good.ensures)
+    rw (← c.scan.auto.rules, ← c.scan.auto.statements)
+    (settled-bad c.args.bytes.now c.in_ok-contents.contents c.scan.new.rules c.scan.new.statements c.into-then-not-rules_good.result
+    (here (goal.at.returns-then-not-rules_good c).In_ok-contents) c.if-rules-contents.false c.if-statements-contents.false c.if-not-rules_good.ensures c.into-then-not-rules_good.ensures)
 
 pub returns : goal.returns
 returns c =
-    let bs = c.args.bytes.now in
-    let g = said bs c.scan-p.result c.scan-p.new.rules c.scan-p.new.statements c.scan-p.ensures c.if-p-ne-ACCEPTED.false in
-    rw (← c.scan-p.auto.rules, ← c.scan-p.auto.statements) (settled-read bs c.scan-p.result c.scan-p.new.rules c.scan-p.new.statements g c.if-rules-n.false c.if-statements-p.false
-    (rules-fault bs c.scan-p.result c.scan-p.new.rules c.scan-p.new.statements true g c.if-rules-n.false c.if-statements-p.false (sym c.rules_good.ensures ∙ c.if-not-rules_good.false)))
+    rw (← c.scan.auto.rules, ← c.scan.auto.statements)
+    (settled-read c.args.bytes.now c.in_ok-contents.contents c.scan.new.rules c.scan.new.statements (here (goal.at.returns c).In_ok-contents)
+    c.if-rules-contents.false c.if-statements-contents.false c.if-not-rules_good.ensures)

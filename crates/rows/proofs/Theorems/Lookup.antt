@@ -8,8 +8,7 @@ use Rattle.words.specs.Limits.{row_width}
 use Rattle.words.specs.Outcome.{pick}
 use Rattle.rows.specs.Rows.{Edge, edge_of, rows_from, edges_from, edges_of, keyed, find}
 use Rattle.rows.specs.Code.{row_at, numbered, looks_up}
-use Rattle.rows.specs.declared.Found.{Found}
-use Rattle.rows.specs.declared.Found.TheVariants.{Row, Nothing}
+use Rattle.std.specs.Prelude.{Option as Answer, Some, None}
 
 -- ---- rows by number
 
@@ -93,14 +92,14 @@ pub record Stands (ws : List ℕ) (n k s i : ℕ) : Type 0 where
   pub finds : find (edges_of ws) n k s ≡ some (edge_of (row_at ws i))
 
 -- the number that a search of these edges gives, counted from r
-numbered-row : (n k s i : ℕ) (es : List Edge) (r : ℕ) (d : Edge) → numbered n k s r es ≡ Row i
+numbered-row : (n k s i : ℕ) (es : List Edge) (r : ℕ) (d : Edge) → numbered n k s r es ≡ Some i
     → (r ≤ i) × (i < r + length es) × (find es n k s ≡ some (get_or es (i - r) d))
 unfolding numbered find
 numbered-row n k s i [] r d h = absurd (let z : ◌≡◌ {A = ℕ} 0 1 = cc in omega arith)
 numbered-row n k s i (e ∷ es) r d h = go (keyed n k s e) (numbered-row n k s i es (r + 1) d) h
   where
-    go : (b : Bool) → (numbered n k s (r + 1) es ≡ Row i → (r + 1 ≤ i) × (i < r + 1 + length es) × (find es n k s ≡ some (get_or es (i - (r + 1)) d)))
-        → pick b (Row r) (numbered n k s (r + 1) es) ≡ Row i
+    go : (b : Bool) → (numbered n k s (r + 1) es ≡ Some i → (r + 1 ≤ i) × (i < r + 1 + length es) × (find es n k s ≡ some (get_or es (i - (r + 1)) d)))
+        → pick b (Some r) (numbered n k s (r + 1) es) ≡ Some i
         → (r ≤ i) × (i < r + suc (length es)) × (elim b [ true ↦ some e | false ↦ find es n k s ] ≡ some (get_or (e ∷ es) (i - r) d))
     go true f h =
         let same : r ≡ i = cc in
@@ -111,23 +110,23 @@ numbered-row n k s i (e ∷ es) r d h = go (keyed n k s e) (numbered-row n k s i
         let z : i - r ≡ suc (i - (r + 1)) = omega arith in
         (omega arith, omega arith, rw z g.2)
 
-numbered-none : (n k s : ℕ) (es : List Edge) (r : ℕ) → numbered n k s r es ≡ Nothing → find es n k s ≡ none
+numbered-none : (n k s : ℕ) (es : List Edge) (r : ℕ) → numbered n k s r es ≡ None → find es n k s ≡ none
 unfolding numbered find
 numbered-none n k s [] r h = refl
 numbered-none n k s (e ∷ es) r h = go (keyed n k s e) (numbered-none n k s es (r + 1)) h
   where
-    go : (b : Bool) → (numbered n k s (r + 1) es ≡ Nothing → find es n k s ≡ none) → pick b (Row r) (numbered n k s (r + 1) es) ≡ Nothing
+    go : (b : Bool) → (numbered n k s (r + 1) es ≡ None → find es n k s ≡ none) → pick b (Some r) (numbered n k s (r + 1) es) ≡ None
         → ◌≡◌ {A = Option Edge} (elim b [ true ↦ some e | false ↦ find es n k s ]) none
     go true f h = absurd (let z : ◌≡◌ {A = ℕ} 0 1 = cc in omega arith)
     go false f h = f h
 
-module _ (ws : List ℕ) (n k s : ℕ) {r : Found} (l : r ≡ looks_up ws n k s) where
-  pub row-found : (i : ℕ) → r ≡ Row i → Stands ws n k s i
+module _ (ws : List ℕ) (n k s : ℕ) {r : Answer ℕ} (l : r ≡ looks_up ws n k s) where
+  pub row-found : (i : ℕ) → r ≡ Some i → Stands ws n k s i
   row-found i h =
       let d : Edge = record { from = 0; kind = 0; sym = 0; to = 0; reduces = [] } in
       let g = numbered-row n k s i (edges_of ws) 0 d (sym l ∙ h) in
       let w : i < length ws / row_width = omega (arith, edges-count ws) in
       record { within = w; finds = g.2 ∙ ap some (rw sub-zero (edge_at ws i d w)) }
 
-  pub none_found : r ≡ Nothing → find (edges_of ws) n k s ≡ none
+  pub none_found : r ≡ None → find (edges_of ws) n k s ≡ none
   none_found h = numbered-none n k s (edges_of ws) 0 (sym l ∙ h)

@@ -16,7 +16,7 @@ use Rattle.words.proofs.Theorems.Tests.{and_l, and_r}
 use Rattle.rules.proofs.Theorems.Every.{All, all_map, chain-at}
 use Rattle.rows.specs.Rows.{Edge, below, precedes, rising, keyed, find, leaving, bare}
 use Rattle.rows.specs.Code.{place_of, numbered}
-use Rattle.rows.specs.declared.Found.TheVariants.{Row, Nothing}
+use Rattle.std.specs.Prelude.{Some, None}
 
 -- ---- keys in order
 
@@ -169,15 +169,15 @@ only_row (e ∷ es) r n k s (suc i) d h q = by (keyed n k s e) refl (only_row es
     by false p f = f
 
 -- by its number, counted from r
-pub only-number : (es : List Edge) → rising es ≡ true → (n k s i r : ℕ) (d : Edge) → i < length es → keyed n k s (get_or es i d) ≡ true → numbered n k s r es ≡ Row (r + i)
+pub only-number : (es : List Edge) → rising es ≡ true → (n k s i r : ℕ) (d : Edge) → i < length es → keyed n k s (get_or es i d) ≡ true → numbered n k s r es ≡ Some (r + i)
 unfolding numbered
 only-number [] o n k s i r d h q = absurd (not-suc-le-zero h)
-only-number (e ∷ es) o n k s zero r d h q = let z : r ≡ r + 0 = omega arith in rw q (ap Row z)
+only-number (e ∷ es) o n k s zero r d h q = let z : r ≡ r + 0 = omega arith in rw q (ap Some z)
 only-number (e ∷ es) o n k s (suc i) r d h q = by (keyed n k s e) refl (only-number es (rising-rest e es o) n k s i (r + 1) d (le_of_suc-le-suc h) q)
   where
-    by : (b : Bool) → keyed n k s e ≡ b → numbered n k s (r + 1) es ≡ Row (r + 1 + i) → pick b (Row r) (numbered n k s (r + 1) es) ≡ Row (r + suc i)
+    by : (b : Bool) → keyed n k s e ≡ b → numbered n k s (r + 1) es ≡ Some (r + 1 + i) → pick b (Some r) (numbered n k s (r + 1) es) ≡ Some (r + suc i)
     by true p f = absurd (let z = one-row (e ∷ es) o n k s d 0 (suc i) (omega arith) h p q in omega arith)
-    by false p f = let m : r + 1 + i ≡ r + suc i = omega arith in f ∙ ap Row m
+    by false p f = let m : r + 1 + i ≡ r + suc i = omega arith in f ∙ ap Some m
 
 -- what comes after a row over a key is over it too
 over-all : (n k s : ℕ) (e : Edge) (es : List Edge) → rising (e ∷ es) ≡ true → Over e n k s → All (λ d. Over d n k s) es
@@ -218,43 +218,43 @@ module _ (n k s : ℕ) where
 
   -- the row at the place, if it has the key, is the first that has it
   pub place-row : (es : List Edge) (r : ℕ) (d : Edge) → place_of n k s es < length es → keyed n k s (get_or es (place_of n k s es) d) ≡ true
-      → numbered n k s r es ≡ Row (r + place_of n k s es)
+      → numbered n k s r es ≡ Some (r + place_of n k s es)
   unfolding place_of numbered
   place-row [] r d h q = absurd (not-suc-le-zero h)
   place-row (e ∷ es) r d h q = by (stand n k s e) (place-row es (r + 1) d) h q
     where
       by : Stand n k s e
-          → (place_of n k s es < length es → keyed n k s (get_or es (place_of n k s es) d) ≡ true → numbered n k s (r + 1) es ≡ Row (r + 1 + place_of n k s es))
+          → (place_of n k s es < length es → keyed n k s (get_or es (place_of n k s es) d) ≡ true → numbered n k s (r + 1) es ≡ Some (r + 1 + place_of n k s es))
           → pick (below n k s e) (suc (place_of n k s es)) 0 < suc (length es)
           → keyed n k s (get_or (e ∷ es) (pick (below n k s e) (suc (place_of n k s es)) 0) d) ≡ true
-          → pick (keyed n k s e) (Row r) (numbered n k s (r + 1) es) ≡ Row (r + pick (below n k s e) (suc (place_of n k s es)) 0)
+          → pick (keyed n k s e) (Some r) (numbered n k s (r + 1) es) ≡ Some (r + pick (below n k s e) (suc (place_of n k s es)) 0)
       by (under b x u) f h q =
           let m : r + 1 + place_of n k s es ≡ r + suc (place_of n k s es) = omega arith in
-          rw (x, b) (f (le_of_suc-le-suc (rw b at h)) (rw b at q) ∙ ap Row m)
-      by (equal b x) f h q = let z : r ≡ r + 0 = omega arith in rw (x, b) (ap Row z)
+          rw (x, b) (f (le_of_suc-le-suc (rw b at h)) (rw b at q) ∙ ap Some m)
+      by (equal b x) f h q = let z : r ≡ r + 0 = omega arith in rw (x, b) (ap Some z)
       by (over b x o) f h q = absurd (false≢true (sym x ∙ rw b at q))
 
   -- and if it has not, or there is none, no row has it
   pub place_none : (es : List Edge) (r : ℕ) (d : Edge) → rising es ≡ true → (place_of n k s es < length es → keyed n k s (get_or es (place_of n k s es) d) ≡ false)
-      → numbered n k s r es ≡ Nothing
+      → numbered n k s r es ≡ None
   unfolding place_of numbered
   place_none [] r d o h = refl
   place_none (e ∷ es) r d o h = by (stand n k s e) (place_none es (r + 1) d (rising-rest e es o)) h
     where
-      high : (es : List Edge) (r : ℕ) → All (λ d. Over d n k s) es → numbered n k s r es ≡ Nothing
+      high : (es : List Edge) (r : ℕ) → All (λ d. Over d n k s) es → numbered n k s r es ≡ None
       high [] r a = refl
       high (c ∷ es) r a = each (stand n k s c) (high es (r + 1) a.1)
         where
-          each : Stand n k s c → numbered n k s (r + 1) es ≡ Nothing → pick (keyed n k s c) (Row r) (numbered n k s (r + 1) es) ≡ Nothing
+          each : Stand n k s c → numbered n k s (r + 1) es ≡ None → pick (keyed n k s c) (Some r) (numbered n k s (r + 1) es) ≡ None
           each (under b q u) h = absurd (lower-not u a.0)
           each (equal b q) h = let i = keyed-is n k s c q in absurd (lower-other a.0 i.0 i.1 i.2)
           each (over b q o) h = rw q h
 
       by : Stand n k s e
-          → ((place_of n k s es < length es → keyed n k s (get_or es (place_of n k s es) d) ≡ false) → numbered n k s (r + 1) es ≡ Nothing)
+          → ((place_of n k s es < length es → keyed n k s (get_or es (place_of n k s es) d) ≡ false) → numbered n k s (r + 1) es ≡ None)
           → (pick (below n k s e) (suc (place_of n k s es)) 0 < suc (length es)
           → keyed n k s (get_or (e ∷ es) (pick (below n k s e) (suc (place_of n k s es)) 0) d) ≡ false)
-          → pick (keyed n k s e) (Row r) (numbered n k s (r + 1) es) ≡ Nothing
+          → pick (keyed n k s e) (Some r) (numbered n k s (r + 1) es) ≡ None
       by (under b x u) f h = rw x (f λ l. rw b at (h (rw b (omega arith))))
       by (equal b x) f h = absurd (false≢true (sym (rw b at (h (rw b (omega arith)))) ∙ x))
       by (over b x u) f h = rw x (high es (r + 1) (over-all n k s e es o u))

@@ -5,7 +5,7 @@ use Rattle.std.proofs.Math.Option.{some}
 use Rattle.words.specs.Limits.{row_width}
 use Rattle.rows.specs.Rows.{Edge, edge_of, edges_of, keyed, find, tables_good}
 use Rattle.rows.specs.Code.{row_at, looks_up}
-use Rattle.rows.specs.declared.Found.TheVariants.{Row}
+use Rattle.std.specs.Prelude.{Some}
 use Rattle.rows.proofs.Theorems.Order.{one-row, only_row, only-number}
 use Rattle.rows.proofs.Theorems.Fair.{tables-fair}
 use Rattle.rows.proofs.Theorems.Lookup.{edges-count, edge_at}
@@ -30,7 +30,7 @@ module _ (rules : ℕ) (ns ws : List ℕ) (good : tables_good rules ns ws ≡ tr
       one-row (edges_of ws) (tables-fair rules ns ws good).order n k s blank i j a.0 b.0 a.1 b.1
 
   -- the look-up gives that row's number, and its edge is the one that is found
-  pub found-wherever : (i : ℕ) → Keyed ws n k s i → (looks_up ws n k s ≡ Row i) × (find (edges_of ws) n k s ≡ some (edge_of (row_at ws i)))
+  pub found-wherever : (i : ℕ) → Keyed ws n k s i → (looks_up ws n k s ≡ Some i) × (find (edges_of ws) n k s ≡ some (edge_of (row_at ws i)))
   found-wherever i h =
       let a = listed i h in
       let o = (tables-fair rules ns ws good).order in (

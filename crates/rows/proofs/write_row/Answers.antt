@@ -27,8 +27,8 @@ bounds-row-4 c = simp length-set (omega arith)
 pub loop-k-init : goal.loop-k-init
 loop-k-init c =
     let e = c.args.e in
-    let h : length e.reduces ≡ 5 = search rules in
-    (search rules, simp length-set (omega arith), written-head c.args.row.now e c.requires.0 h c.requires.1)
+    let h : length e.reduces.items ≡ 5 = search rules in
+    (search rules, simp length-set (omega arith), written-head c.args.row.now e c.requires h)
 
 pub bounds-row-k : goal.bounds-row-k
 bounds-row-k c = omega arith
@@ -42,7 +42,7 @@ loop-k-preserved c =
     let e = edge_is c.args.e in (
       search rules,
       simp length-set (omega arith),
-      ap (λ (r : Reduce). take (5 + 2 * (l.k + 1)) (set (set l.row (5 + 2 * l.k) r.rule) (6 + 2 * l.k) r.offset)) c.reduce_of-r.ensures
+      ap (λ (r : Reduce). take (5 + 2 * (l.k + 1)) (set (set l.row (5 + 2 * l.k) r.rule) (6 + 2 * l.k) r.offset)) c.get-r.ensures
           ∙ written-pair l.row e l.k (search rules) l.invariant.1 l.invariant.2,
     )
 

@@ -28,7 +28,7 @@ items-good-odd ws i h k = by (ltb (suc i) (length ws)) refl
     by false e = rw (drop-cons ws i 0 h, drop_of_length-le ws {i = suc i} (ltb-false (suc i) (length ws) e))
 
 -- an item of a body, word by word
-three : (ws : List ℕ) (i : ℕ) → i + 2 < length ws
+pub three : (ws : List ℕ) (i : ℕ) → i + 2 < length ws
     → drop i ws ≡ get_or ws i 0 ∷ get_or ws (i + 1) 0 ∷ get_or ws (i + 2) 0 ∷ drop (i + item_width) ws
 three ws i h =
     let a : i < length ws = omega arith in

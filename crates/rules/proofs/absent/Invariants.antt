@@ -1,12 +1,9 @@
-use Prim.Native.Nat.{◌≤◌, ◌-◌}
-use mathlib.Core.Path.{◌≡◌}
-use mathlib.Core.Bool.{true}
-use lib.ListN.{length, drop}
-use Rattle.rules.specs.Rules.{variables, good_items, absent}
+use Rattle.std.proofs.Common.{◌≡◌, true, length}
+use Rattle.rules.specs.Rules.{good_items, absent, variables}
 use Rattle.rules.proofs.absent.Given as goal
 
-abbrev pub invariant-loop-i : goal.invariant-loop-i
-invariant-loop-i l = (l.i ≤ length l.items) × (good_items (drop l.i l.items) ≡ true) × (absent l.variable (variables (drop l.i l.items)) ≡ absent l.variable (variables l.items))
+abbrev pub invariant-loop-other : goal.invariant-loop-other
+invariant-loop-other l = (good_items l.rest ≡ true) × (absent l.variable (variables l.rest) ≡ absent l.variable (variables l.items))
 
-abbrev pub decreases-loop-i : goal.decreases-loop-i
-decreases-loop-i l = length l.items - l.i
+abbrev pub decreases-loop-other : goal.decreases-loop-other
+decreases-loop-other l = length l.rest

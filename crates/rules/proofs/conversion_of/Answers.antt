@@ -1,34 +1,20 @@
-use mathlib.Core.Path.{sym}
-use native.Mathlib.Omega.{arith}
-use Rattle.rules.proofs.Theorems.Words.{GoodRule, good-rule, source-long, source-con, source-slot}
+use Rattle.std.proofs.Common.{◌≡◌, length, arith, sym}
+use Rattle.rules.proofs.Items.{source-slot-first, source-con-first, source-others}
+use Rattle.rules.proofs.Theorems.Words.{good-rule}
 use Rattle.rules.proofs.conversion_of.Goals as goal
 
-pub bounds-s-1 : goal.bounds-s-1
-bounds-s-1 c =
-    let rule : GoodRule c.args.s.now = good-rule 0 c.args.s.now c.requires in
-    omega (arith, rule.two)
+pub returns-in_default : goal.returns-in_default
+returns-in_default c =
+    sym (source-others _ (good-rule 0 c.args.s.now c.requires).items λ e. omega (arith, c.in_default.len_below, c.body_of.ensures, rw (← c.body_of.ensures) at e))
 
-pub returns-then-s-ne1 : goal.returns-then-s-ne1
-returns-then-s-ne1 c =
-    let rule : GoodRule c.args.s.now = good-rule 0 c.args.s.now c.requires in
-    sym (source-long c.args.s.now rule c.if-s-ne1.true)
+pub returns-in_default-2 : goal.returns-in_default-2
+returns-in_default-2 c =
+    sym (source-others _ (good-rule 0 c.args.s.now c.requires).items λ e. omega (arith, c.in_default.len_at_least, rw (← c.body_of.ensures) at e))
 
-pub bounds-s-2 : goal.bounds-s-2
-bounds-s-2 c =
-    let rule : GoodRule c.args.s.now = good-rule 0 c.args.s.now c.requires in
-    omega (arith, rule.fits)
+pub returns-then-kind-eq1 : goal.returns-then-kind-eq1
+returns-then-kind-eq1 c =
+    let three : length c.body_of.result.now ≡ 3 = omega (arith, c.in-len3.len_at_least, c.in-len3.len_below) in
+    rw c.body_of.ensures (sym (source-slot-first _ (rw c.body_of.ensures at three) (rw c.body_of.ensures at c.if-kind-eq1.true)))
 
-pub returns-then-s-ne1-2 : goal.returns-then-s-ne1-2
-returns-then-s-ne1-2 c =
-    let rule : GoodRule c.args.s.now = good-rule 0 c.args.s.now c.requires in
-    sym (source-con c.args.s.now rule c.if-s-ne1.false c.if-s-ne1-2.true)
-
-pub bounds-s-3 : goal.bounds-s-3
-bounds-s-3 c =
-    let rule : GoodRule c.args.s.now = good-rule 0 c.args.s.now c.requires in
-    omega (arith, rule.fits)
-
-pub returns : goal.returns
-returns c =
-    let rule : GoodRule c.args.s.now = good-rule 0 c.args.s.now c.requires in
-    sym (source-slot c.args.s.now rule c.if-s-ne1.false c.if-s-ne1-2.false)
+pub returns-else-kind-eq1 : goal.returns-else-kind-eq1
+returns-else-kind-eq1 c = sym (source-con-first _ (good-rule 0 c.args.s.now c.requires).items (rw c.body_of.ensures at c.if-kind-eq1.false))

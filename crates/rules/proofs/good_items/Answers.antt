@@ -1,43 +1,20 @@
-use mathlib.Core.Path.{sym, ◌∙◌}
-use borrow.Author.Rules.{rules}
+use Rattle.std.proofs.Common.{rules}
+use Rattle.rules.proofs.Items.{split, short-good}
+use Rattle.rules.specs.Rules.{good_items}
 use Rattle.words.proofs.Theorems.Tests.{tests}
-use Rattle.rules.proofs.Theorems.Words.{items-good-end, items-good-odd, items-good-step}
 use Rattle.rules.proofs.good_items.Goals as goal
 
-pub returns-then-body-i-lt-ITEM_WIDTH : goal.returns-then-body-i-lt-ITEM_WIDTH
-returns-then-body-i-lt-ITEM_WIDTH c =
-    let l = c.loop-i in
-    let body = c.args.body.now in
-    search (← l.invariant.1, items-good-odd body l.i (search rules) (search rules))
+pub returns-then-not-good_item : goal.returns-then-not-good_item
+unfolding good_items
+returns-then-not-good_item c =
+    let e = split c.loop-kind.rest.now c.in-Some.field-0-0.now c.in-Some.others.now c.in-Some.ensures.cases in
+    rw (← c.loop-kind.invariant, e) (search (tests, rules))
 
-pub returns-then-kind-gt1 : goal.returns-then-kind-gt1
-returns-then-kind-gt1 c =
-    let l = c.loop-i in
-    let body = c.args.body.now in
-    search (tests, ← l.invariant.1, items-good-step body l.i (search rules))
-
-pub returns-then-not-symbol : goal.returns-then-not-symbol
-returns-then-not-symbol c =
-    let l = c.loop-i in
-    let body = c.args.body.now in
-    search (tests, ← l.invariant.1, items-good-step body l.i (search rules), sym c.symbol.ensures ∙ c.if-not-symbol.true)
-
-pub returns-then-not-third : goal.returns-then-not-third
-returns-then-not-third c =
-    let l = c.loop-i in
-    let body = c.args.body.now in
-    let s = sym c.symbol.ensures ∙ c.if-not-symbol.false in
-    search (tests, ← l.invariant.1, items-good-step body l.i (search rules), s, sym c.third.ensures ∙ c.if-not-third.true)
-
-pub loop-i-preserved : goal.loop-i-preserved
-loop-i-preserved c =
-    let l = c.loop-i in
-    let body = c.args.body.now in
-    let s = sym c.symbol.ensures ∙ c.if-not-symbol.false in
-    (search rules, search (tests, ← l.invariant.1, items-good-step body l.i (search rules), s, sym c.third.ensures ∙ c.if-not-third.false))
+pub loop-kind-preserved : goal.loop-kind-preserved
+unfolding good_items
+loop-kind-preserved c =
+    let e = split c.loop-kind.rest.now c.in-Some.field-0-0.now c.in-Some.others.now c.in-Some.ensures.cases in
+    rw (← c.loop-kind.invariant, e) (search (tests, rules))
 
 pub returns : goal.returns
-returns c =
-    let l = c.loop-i in
-    let body = c.args.body.now in
-    search (← l.invariant.1, items-good-end body l.i (search rules))
+returns c = rw (← c.loop-kind.invariant) (search (rules, short-good c.loop-kind.rest.now (search rules)))

@@ -1,104 +1,63 @@
-use Prim.Native.Nat.{◌≤◌, ◌<◌, ◌+◌}
-use mathlib.Core.Path.{◌≡◌, refl, ◌∙◌}
-use native.Mathlib.Omega.{arith}
-use lib.ListN.{length, drop, length-drop, length-set}
-use Rattle.words.specs.Limits.{most_rules}
+use Rattle.std.proofs.Common.{length-drop, rules, arith}
 use Rattle.words.proofs.Theorems.Parts.{part-all}
-use Rattle.rules.specs.Rules.{size_of, slots, rule_of}
-use Rattle.rules.proofs.Theorems.Words.{Here, ahead-end, rules-most, words-most}
+use Rattle.words.specs.Limits.{most_rules}
+use Rattle.rules.proofs.Theorems.Words.{words-most}
 use Rattle.rules.proofs.Laws.{part-size-of}
-use Rattle.rules.proofs.Index.{marking-none, marking-here, marking-more, few}
+use Rattle.rules.proofs.Index.{marking-none, marking-here, marking-more, marking-inside, few}
 use Rattle.rules.proofs.index_rules.Goals as goal
 
-pub loop-at-init : goal.loop-at-init
-loop-at-init c = (refl, marking-none c.args.rules.now c.args.starts.now c.requires.0)
+pub loop-mark-init : goal.loop-mark-init
+loop-mark-init c = marking-none c.args.rules.now c.args.starts.now c.requires.0
 
-pub slots_of-slots-requires : goal.slots_of-slots-requires
-slots_of-slots-requires c =
-    let here : Here c.args.rules.now c.loop-at.at c.loop-at.n = let l = c.loop-at in
-    marking-here c.args.rules.now l.n l.at l.starts l.invariant.1 c.loop-at-test.true in
-    rw (part-all c.args.rules.now c.loop-at.at) here.good
+-- the place of a rule, as the index word has it, is small enough for it
+pub overflow_cast-mark : goal.overflow_cast-mark
+overflow_cast-mark c =
+    let short = words-most 0 most_rules c.args.rules.now c.requires.0 in
+    omega (arith, short, c.loop-mark.invariant.within)
 
-pub overflow_cast-starts : goal.overflow_cast-starts
-overflow_cast-starts c =
-    let short : length c.args.rules.now ≤ 200704 = words-most 0 most_rules c.args.rules.now c.requires.0 in
-    omega (arith, short, c.loop-at-test.true)
+pub overflow_mul-mark : goal.overflow_mul-mark
+overflow_mul-mark c =
+    let short = words-most 0 most_rules c.args.rules.now c.requires.0 in
+    omega (arith, short, c.loop-mark.invariant.within)
 
-pub overflow_mul-starts : goal.overflow_mul-starts
-overflow_mul-starts c =
-    let short : length c.args.rules.now ≤ 200704 = words-most 0 most_rules c.args.rules.now c.requires.0 in
-    omega (arith, short, c.loop-at-test.true)
+pub slots_of-requires : goal.slots_of-requires
+slots_of-requires c =
+    let l = c.loop-mark in
+    let b = marking-inside c.args.rules.now l.mark-index l.at l.mark-items l.invariant (omega (arith, c.loop-mark-test.true, c.requires.1)) in
+    rw (part-all c.args.rules.now l.at) (marking-here c.args.rules.now l.mark-index l.at l.mark-items l.invariant b).good
 
-pub overflow_add-starts : goal.overflow_add-starts
-overflow_add-starts c =
-    let short : length c.args.rules.now ≤ 200704 = words-most 0 most_rules c.args.rules.now c.requires.0 in
-    let found : c.slots_of-slots.result ≡ slots (rule_of (drop c.loop-at.at c.args.rules.now)).body = rw (part-all c.args.rules.now c.loop-at.at) at c.slots_of-slots.ensures in
-    let fits : c.slots_of-slots.result < 64 = let l = c.loop-at in
-    let b = few c.args.rules.now l.n l.at l.starts l.invariant.1 c.loop-at-test.true in
-    omega (arith, found, b) in
-    omega (arith, short, fits, c.loop-at-test.true)
-
-pub offset_bounds-starts-n : goal.offset_bounds-starts-n
-offset_bounds-starts-n c =
-    let here : Here c.args.rules.now c.loop-at.at c.loop-at.n = let l = c.loop-at in
-    marking-here c.args.rules.now l.n l.at l.starts l.invariant.1 c.loop-at-test.true in
-    let few-rules : c.loop-at.n < 2048 = omega (arith, here.counted, rules-most most_rules c.args.rules.now) in
-    omega (arith, few-rules)
-
-pub bounds-starts-n : goal.bounds-starts-n
-bounds-starts-n c =
-    let here : Here c.args.rules.now c.loop-at.at c.loop-at.n = let l = c.loop-at in
-    marking-here c.args.rules.now l.n l.at l.starts l.invariant.1 c.loop-at-test.true in
-    let room : c.loop-at.n < length c.loop-at.starts = omega (arith, here.counted, c.loop-at.invariant.0, c.requires.1) in
-    room
+pub overflow_add-mark : goal.overflow_add-mark
+overflow_add-mark c =
+    let l = c.loop-mark in
+    let short = words-most 0 most_rules c.args.rules.now c.requires.0 in
+    let b = marking-inside c.args.rules.now l.mark-index l.at l.mark-items l.invariant (omega (arith, c.loop-mark-test.true, c.requires.1)) in
+    let f = few c.args.rules.now l.mark-index l.at l.mark-items l.invariant b in
+    let e = rw (part-all c.args.rules.now l.at) at c.slots_of.ensures in
+    omega (arith, short, f, e, b)
 
 pub size_of-at-requires : goal.size_of-at-requires
 size_of-at-requires c =
-    let here : Here c.args.rules.now c.loop-at.at c.loop-at.n = let l = c.loop-at in
-    marking-here c.args.rules.now l.n l.at l.starts l.invariant.1 c.loop-at-test.true in
-    let l = c.loop-at in
-    let ws = c.args.rules.now in
-    rw (part-all ws l.at) (omega (arith, length-drop l.at ws, here.two))
+    let l = c.loop-mark in
+    let b = marking-inside c.args.rules.now l.mark-index l.at l.mark-items l.invariant (omega (arith, c.loop-mark-test.true, c.requires.1)) in
+    let here = marking-here c.args.rules.now l.mark-index l.at l.mark-items l.invariant b in
+    rw (part-all c.args.rules.now l.at) (omega (arith, length-drop l.at c.args.rules.now, here.two))
 
 pub overflow_add-at : goal.overflow_add-at
 overflow_add-at c =
-    let size : c.size_of-at.result ≡ size_of (drop c.loop-at.at c.args.rules.now) = part-size-of c.args.rules.now c.loop-at.at c.size_of-at.ensures in
-    let here : Here c.args.rules.now c.loop-at.at c.loop-at.n = let l = c.loop-at in
-    marking-here c.args.rules.now l.n l.at l.starts l.invariant.1 c.loop-at-test.true in
-    omega (arith, size, here.fits)
+    let l = c.loop-mark in
+    let b = marking-inside c.args.rules.now l.mark-index l.at l.mark-items l.invariant (omega (arith, c.loop-mark-test.true, c.requires.1)) in
+    let size = part-size-of c.args.rules.now l.at c.size_of-at.ensures in
+    omega (arith, size, (marking-here c.args.rules.now l.mark-index l.at l.mark-items l.invariant b).fits)
 
-pub overflow_add-n : goal.overflow_add-n
-overflow_add-n c =
-    let here : Here c.args.rules.now c.loop-at.at c.loop-at.n = let l = c.loop-at in
-    marking-here c.args.rules.now l.n l.at l.starts l.invariant.1 c.loop-at-test.true in
-    let room : c.loop-at.n < length c.loop-at.starts = omega (arith, here.counted, c.loop-at.invariant.0, c.requires.1) in
-    omega (arith, room)
-
-pub loop-at-smaller : goal.loop-at-smaller
-loop-at-smaller c =
-    let size : c.size_of-at.result ≡ size_of (drop c.loop-at.at c.args.rules.now) = part-size-of c.args.rules.now c.loop-at.at c.size_of-at.ensures in
-    let here : Here c.args.rules.now c.loop-at.at c.loop-at.n = let l = c.loop-at in
-    marking-here c.args.rules.now l.n l.at l.starts l.invariant.1 c.loop-at-test.true in
-    omega (arith, size, here.fits)
-
-pub loop-at-preserved : goal.loop-at-preserved
-loop-at-preserved c =
-    let size : c.size_of-at.result ≡ size_of (drop c.loop-at.at c.args.rules.now) = part-size-of c.args.rules.now c.loop-at.at c.size_of-at.ensures in
-    let here : Here c.args.rules.now c.loop-at.at c.loop-at.n = let l = c.loop-at in
-    marking-here c.args.rules.now l.n l.at l.starts l.invariant.1 c.loop-at-test.true in
-    let room : c.loop-at.n < length c.loop-at.starts = omega (arith, here.counted, c.loop-at.invariant.0, c.requires.1) in
-    let found : c.slots_of-slots.result ≡ slots (rule_of (drop c.loop-at.at c.args.rules.now)).body = rw (part-all c.args.rules.now c.loop-at.at) at c.slots_of-slots.ensures in
-    let l = c.loop-at in (
-      length-set l.starts _ _ ∙ l.invariant.0,
-      rw size (marking-more c.args.rules.now l.n l.at l.starts l.invariant.1 c.loop-at-test.true
-          room c.slots_of-slots.result found),
-    )
-
-pub shape_of-starts : goal.shape_of-starts
-shape_of-starts c = c.loop-at.invariant.0
+pub loop-mark-preserved : goal.loop-mark-preserved
+loop-mark-preserved c =
+    let l = c.loop-mark in
+    let b = marking-inside c.args.rules.now l.mark-index l.at l.mark-items l.invariant (omega (arith, c.loop-mark-test.true, c.requires.1)) in
+    let size = part-size-of c.args.rules.now l.at c.size_of-at.ensures in
+    let found = rw (part-all c.args.rules.now l.at) at c.slots_of.ensures in
+    rw size (marking-more c.args.rules.now l.mark-index l.at l.mark-items l.invariant b (search rules) c.slots_of.result found)
 
 pub returns : goal.returns
 returns c =
-    let l = c.loop-at in
-    let e = ahead-end c.args.rules.now l.at l.n (l.invariant.1.searches (l.n + 1) (omega arith)).ahead (omega (arith, c.loop-at-test.false)) in
-    (λ m h. l.invariant.1.marks m (omega (arith, e, h, l.invariant.0, c.requires.1)), l.invariant.0)
+    let l = c.loop-mark in
+    (λ m h. l.invariant.marks m (omega (arith, h, c.loop-mark-test.false, l.auto.mark-items)), l.auto.mark-items)

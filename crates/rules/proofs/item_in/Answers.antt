@@ -39,6 +39,6 @@ pub returns-then-body-at-eq0 : goal.returns-then-body-at-eq0
 returns-then-body-at-eq0 c =
     item-con c.args.body.now c.args.k c.requires c.if-body-at-eq0.true
 
-pub returns : goal.returns
-returns c =
+pub returns-else-body-at-eq0 : goal.returns-else-body-at-eq0
+returns-else-body-at-eq0 c =
     item-slot c.args.body.now c.args.k c.requires c.if-body-at-eq0.false

@@ -1,32 +1,34 @@
-use native.Mathlib.Omega.{arith}
-use borrow.Author.Rules.{rules}
-use Rattle.rules.proofs.Theorems.Words.{GoodItem, good-item, slots-step, slots_end}
+use Rattle.std.proofs.Common.{rules, arith}
+use Rattle.rules.proofs.Items.{split, first-good, short-none, slots-first}
+use Rattle.rules.specs.Rules.{slots, items_of}
 use Rattle.rules.proofs.slots_in.Goals as goal
-use Rattle.rules.proofs.slots_in.Goals.{else-body-i-eq1, then-body-i-eq1}
 
-pub loop-i-init : goal.loop-i-init
-loop-i-init c = (search rules, search rules, c.requires.0, omega arith)
+pub loop-kind-preserved-then-kind-eq1 : goal.loop-kind-preserved-then-kind-eq1
+loop-kind-preserved-then-kind-eq1 c =
+    let others = c.in-Some.others.now in
+    let l = c.loop-kind in
+    let h = c.in-Some.ensures.cases in
+    let e = split l.rest.now c.in-Some.field-0-0.now others h in
+    let g = rw e at l.invariant.0 in
+    let s = (slots-first _ _ _ others g).0 (search rules) in
+    let i = rw e at l.invariant.1 in
+    ((first-good _ _ _ others g).3, omega (arith, s, i), omega (arith, l.invariant.2, h.2))
 
-pub overflow_add-n : goal.overflow_add-n
-overflow_add-n c = omega (arith, c.requires.1)
-
-pub overflow_add-i : goal.overflow_add-i
-overflow_add-i c = omega (arith, c.requires.1)
-
-pub loop-i-preserved : goal.loop-i-preserved
-loop-i-preserved c =
-    let item : GoodItem c.args.body.now c.loop-i.i = good-item c.args.body.now c.loop-i.i c.loop-i-test.true c.loop-i.invariant.2 in
-    let l = c.loop-i in
-    let body = c.args.body.now in
-    let it = item in
-    let step = slots-step body l.i it.whole it.kind in (
-      omega (arith, it.whole),
-      elim c.if-body-i-eq1.branch [ then-body-i-eq1 w ↦ omega (arith, l.invariant.1) | else-body-i-eq1 w ↦ omega (arith, l.invariant.1) ],
-      it.rest,
-      elim c.if-body-i-eq1.branch [ then-body-i-eq1 w ↦ omega (arith, step, l.invariant.3) | else-body-i-eq1 w ↦ omega (arith, step, it.kind, l.invariant.3) ],
-    )
+pub loop-kind-preserved : goal.loop-kind-preserved
+loop-kind-preserved c =
+    let others = c.in-Some.others.now in
+    let l = c.loop-kind in
+    let h = c.in-Some.ensures.cases in
+    let e = split l.rest.now c.in-Some.field-0-0.now others h in
+    let g = rw e at l.invariant.0 in
+    let s = (slots-first _ _ _ others g).1 (search rules) in
+    let i = rw e at l.invariant.1 in
+    ((first-good _ _ _ others g).3, omega (arith, s, i), omega (arith, l.invariant.2, h.2))
 
 pub returns : goal.returns
+unfolding slots items_of
 returns c =
-    let l = c.loop-i in
-    omega (arith, l.invariant.3, slots_end c.args.body.now l.i (omega arith))
+    let l = c.loop-kind in
+    let e = short-none l.rest.now (search rules) l.invariant.0 in
+    let i = rw e at l.invariant.1 in
+    omega (arith, i)

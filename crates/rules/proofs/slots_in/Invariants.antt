@@ -1,12 +1,9 @@
-use Prim.Native.Nat.{◌≤◌, ◌+◌, ◌-◌}
-use mathlib.Core.Path.{◌≡◌}
-use mathlib.Core.Bool.{true}
-use lib.ListN.{length, drop}
-use Rattle.rules.specs.Rules.{items_of, slots, good_items}
+use Rattle.std.proofs.Common.{◌≡◌, ◌+◌, ◌≤◌, ◌*◌, true, length}
+use Rattle.rules.specs.Rules.{good_items, items_of, slots}
 use Rattle.rules.proofs.slots_in.Given as goal
 
-abbrev pub invariant-loop-i : goal.invariant-loop-i
-invariant-loop-i l = (l.i ≤ length l.body) × (l.n ≤ l.i) × (good_items (drop l.i l.body) ≡ true) × (l.n + slots (items_of (drop l.i l.body)) ≡ slots (items_of l.body))
+abbrev pub invariant-loop-kind : goal.invariant-loop-kind
+invariant-loop-kind l = (good_items l.rest ≡ true) × (l.n + slots (items_of l.rest) ≡ slots (items_of l.body)) × (3 * l.n + length l.rest ≤ length l.body)
 
-abbrev pub decreases-loop-i : goal.decreases-loop-i
-decreases-loop-i l = length l.body - l.i
+abbrev pub decreases-loop-kind : goal.decreases-loop-kind
+decreases-loop-kind l = length l.rest

@@ -28,51 +28,51 @@ returns-in_default c =
 
 pub offset_bounds-rules-i : goal.offset_bounds-rules-i
 offset_bounds-rules-i c =
-    let starts : Starts c.args.rules.now c.args.no.0 c.in-At.i = subst (λ r. Found c.args.rules.now c.args.no.0 r) c.in-At.is c.step_to.ensures in
+    let starts : Starts c.args.rules.now c.args.no.0 c.in-Some.i = subst (λ r. Found c.args.rules.now c.args.no.0 r) c.in-Some.is c.step_to.ensures in
     omega (arith, starts.fits)
 
 pub slice_bounds-size_of-count : goal.slice_bounds-size_of-count
 slice_bounds-size_of-count c =
-    let starts : Starts c.args.rules.now c.args.no.0 c.in-At.i = subst (λ r. Found c.args.rules.now c.args.no.0 r) c.in-At.is c.step_to.ensures in
+    let starts : Starts c.args.rules.now c.args.no.0 c.in-Some.i = subst (λ r. Found c.args.rules.now c.args.no.0 r) c.in-Some.is c.step_to.ensures in
     omega (arith, starts.fits)
 
 pub slice_bounds-size_of-start : goal.slice_bounds-size_of-start
 slice_bounds-size_of-start c =
-    let starts : Starts c.args.rules.now c.args.no.0 c.in-At.i = subst (λ r. Found c.args.rules.now c.args.no.0 r) c.in-At.is c.step_to.ensures in
+    let starts : Starts c.args.rules.now c.args.no.0 c.in-Some.i = subst (λ r. Found c.args.rules.now c.args.no.0 r) c.in-Some.is c.step_to.ensures in
     omega (arith, starts.fits)
 
 pub size_of-size-requires : goal.size_of-size-requires
 size_of-size-requires c =
-    let starts : Starts c.args.rules.now c.args.no.0 c.in-At.i = subst (λ r. Found c.args.rules.now c.args.no.0 r) c.in-At.is c.step_to.ensures in
-    let i = c.in-At.i in
+    let starts : Starts c.args.rules.now c.args.no.0 c.in-Some.i = subst (λ r. Found c.args.rules.now c.args.no.0 r) c.in-Some.is c.step_to.ensures in
+    let i = c.in-Some.i in
     let ws = c.args.rules.now in
     rw (part-all ws i) (good-rule 0 (drop i ws) starts.good).two
 
 pub overflow_add-result : goal.overflow_add-result
 overflow_add-result c =
-    let starts : Starts c.args.rules.now c.args.no.0 c.in-At.i = subst (λ r. Found c.args.rules.now c.args.no.0 r) c.in-At.is c.step_to.ensures in
+    let starts : Starts c.args.rules.now c.args.no.0 c.in-Some.i = subst (λ r. Found c.args.rules.now c.args.no.0 r) c.in-Some.is c.step_to.ensures in
     let good : rules_good c.args.codes.provable.0 c.args.codes.logic.0 c.args.rules.now ≡ true = sym c.rules_good.ensures ∙ c.if-not-rules_good.false in
     let few : length c.args.rules.now ≤ most_rules * (2 + item_width * most_items) = words-most 0 most_rules _ (rules-good _ _ _ good) in
     omega (arith, starts.fits, few)
 
 pub overflow_cast-result : goal.overflow_cast-result
 overflow_cast-result c =
-    let starts : Starts c.args.rules.now c.args.no.0 c.in-At.i = subst (λ r. Found c.args.rules.now c.args.no.0 r) c.in-At.is c.step_to.ensures in
+    let starts : Starts c.args.rules.now c.args.no.0 c.in-Some.i = subst (λ r. Found c.args.rules.now c.args.no.0 r) c.in-Some.is c.step_to.ensures in
     let good : rules_good c.args.codes.provable.0 c.args.codes.logic.0 c.args.rules.now ≡ true = sym c.rules_good.ensures ∙ c.if-not-rules_good.false in
     let few : length c.args.rules.now ≤ most_rules * (2 + item_width * most_items) = words-most 0 most_rules _ (rules-good _ _ _ good) in
     omega (arith, starts.fits, few)
 
 pub overflow_cast-result-2 : goal.overflow_cast-result-2
 overflow_cast-result-2 c =
-    let starts : Starts c.args.rules.now c.args.no.0 c.in-At.i = subst (λ r. Found c.args.rules.now c.args.no.0 r) c.in-At.is c.step_to.ensures in
+    let starts : Starts c.args.rules.now c.args.no.0 c.in-Some.i = subst (λ r. Found c.args.rules.now c.args.no.0 r) c.in-Some.is c.step_to.ensures in
     let good : rules_good c.args.codes.provable.0 c.args.codes.logic.0 c.args.rules.now ≡ true = sym c.rules_good.ensures ∙ c.if-not-rules_good.false in
     let few : length c.args.rules.now ≤ most_rules * (2 + item_width * most_items) = words-most 0 most_rules _ (rules-good _ _ _ good) in
-    let size : c.size_of-size.result ≡ size_of (drop c.in-At.i c.args.rules.now) = part-size-of c.args.rules.now c.in-At.i c.size_of-size.ensures in
+    let size : c.size_of-size.result ≡ size_of (drop c.in-Some.i c.args.rules.now) = part-size-of c.args.rules.now c.in-Some.i c.size_of-size.ensures in
     omega (arith, starts.fits, few, size)
 
 pub returns : goal.returns
 returns c =
     let good : rules_good c.args.codes.provable.0 c.args.codes.logic.0 c.args.rules.now ≡ true = sym c.rules_good.ensures ∙ c.if-not-rules_good.false in
-    let starts : Starts c.args.rules.now c.args.no.0 c.in-At.i = subst (λ r. Found c.args.rules.now c.args.no.0 r) c.in-At.is c.step_to.ensures in
-    let size : c.size_of-size.result ≡ size_of (drop c.in-At.i c.args.rules.now) = part-size-of c.args.rules.now c.in-At.i c.size_of-size.ensures in
+    let starts : Starts c.args.rules.now c.args.no.0 c.in-Some.i = subst (λ r. Found c.args.rules.now c.args.no.0 r) c.in-Some.is c.step_to.ensures in
+    let size : c.size_of-size.result ≡ size_of (drop c.in-Some.i c.args.rules.now) = part-size-of c.args.rules.now c.in-Some.i c.size_of-size.ensures in
     rw (good, starts.stretched, size)

@@ -1,13 +1,11 @@
-use borrow.Author.Tests.{eq-eqb, ne_eqb}
+use mathlib.Core.Path.{sym, ◌∙◌}
 use Rattle.walk.specs.Walk.{wanted_by}
 use Rattle.walk.proofs.goal_of.Goals as goal
 
-pub returns-then-stated-codes : goal.returns-then-stated-codes
+pub returns-then-eq : goal.returns-then-eq
 unfolding wanted_by
-returns-then-stated-codes c =
-    rw (eq-eqb c.args.stated.0 c.args.codes.provable.0 c.if-stated-codes.true)
+returns-then-eq c = rw (sym c.eq.ensures ∙ c.if-eq.true)
 
 pub returns : goal.returns
 unfolding wanted_by
-returns c =
-    rw (ne_eqb c.args.stated.0 c.args.codes.provable.0 c.if-stated-codes.false)
+returns c = rw (sym c.eq.ensures ∙ c.if-eq.false)

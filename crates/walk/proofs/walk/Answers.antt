@@ -4,20 +4,17 @@ use native.Mathlib.Omega.{arith}
 use lib.ListN.{length}
 use Rattle.formula.specs.Code.{most_room}
 use Rattle.words.specs.Outcome.{lesser}
-use Rattle.walk.proofs.Passes.{tables-fit, room-lent, walk-answers}
+use Rattle.walk.proofs.Running.{room-lent, walk-answers}
 use Rattle.walk.proofs.walk.Goals as goal
 
 pub run-requires : goal.run-requires
 run-requires c =
     let a = c.args in
-    let q = a.terms.codes in
     let p = c.requires in (
-      tables-fit q.provable.0 q.logic.0 a.rules.now a.starts.now a.nodes.now a.edges.now a.firsts.now p.0 p.1 p.2 p.3,
-      omega (arith, p.5),
-      p.6,
+      omega (arith, p.1),
+      p.2,
       room-lent (length a.list.now) (length a.work.now) c.lesser.result
           (c.lesser.ensures ∙ ap (λ (n : ℕ). lesser n most_room) c.lesser-shorter.ensures),
-      p.4,
     )
 
 pub returns : goal.returns
@@ -25,6 +22,6 @@ returns c =
     let a = c.args in
     let q = a.terms.codes in
     let p = c.requires in
-    walk-answers a.rules.now a.nodes.now a.edges.now q.provable.0 q.logic.0 a.terms.allowance a.tokens.now a.frames.now
-    p.1 p.5 p.6 (lesser (length a.list.now) (length a.work.now)) c.lesser.result c.goal_of-goal.result.0
+    walk-answers a.g.now.book.rules.now a.g.now.nodes.now a.g.now.edges.now q.provable.0 q.logic.0 a.terms.allowance a.tokens.now a.frames.now
+    p.0 p.1 p.2 (lesser (length a.list.now) (length a.work.now)) c.lesser.result c.goal_of-goal.result.0
     (c.lesser.ensures ∙ ap (λ (n : ℕ). lesser n most_room) c.lesser-shorter.ensures) c.goal_of-goal.ensures c.run.ensures

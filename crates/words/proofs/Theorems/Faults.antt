@@ -1,8 +1,11 @@
 -- What the number of the first failing demand says.
-use Rattle.std.specs.Prelude.{◌≡◌, refl, Bool, true, false, List, [], ◌∷◌, ◌++◌, ◌≢◌, ℕ, suc, ◌≤◌}
-use Rattle.std.proofs.Common.{arith}
+use Rattle.std.specs.Prelude.{◌≡◌, refl, Bool, true, false, List, [], ◌∷◌, ◌++◌, ◌≢◌, ℕ, zero, suc, ◌≤◌}
+use Rattle.std.proofs.Common.{arith, sym}
 use Rattle.words.specs.Outcome.{Demand, demand, first_fault}
 use Rattle.words.specs.Numbers.{accepted}
+use Rattle.words.specs.Code.{code}
+use Rattle.words.specs.declared.Refusal.{Refusal}
+use Rattle.words.specs.declared.Refusal.TheVariants.{TooFewTokens, Unparseable, TooShort, Misfit, NoPass, NoFrame, NoRoom, BadTables, TooManyTokens, BadRules, Collides, NoNode, NoEdge, SixthReduce, FarOffset, BadCopy, ManyRows, CutShort, UnknownKind, WrongSize, WrongOrder}
 
 -- the first demand passes: the others decide
 pub met : {b : Bool} → b ≡ true → (k : ℕ) (ds : List Demand) → first_fault (demand b k ∷ ds) ≡ first_fault ds
@@ -63,3 +66,32 @@ after-by false k ds es p r h = absurd (omega arith)
 pub fault-after : {ds : List Demand} → Each (λ k. 1 ≤ k) ds → (es : List Demand) → first_fault ds ≡ 0 → first_fault (ds ++ es) ≡ first_fault es
 fault-after none_left es h = refl
 fault-after (one_more {b} {k} {ds} p r) es h = after-by b k ds es p (λ h. fault-after r es h) h
+
+-- the same of any number but that of no fault
+pub fault-first : (ds es : List Demand) (k : ℕ) → 1 ≤ k → k ≡ first_fault ds → k ≡ first_fault (ds ++ es)
+fault-first ds es zero p e = absurd (omega arith)
+fault-first ds es (suc n) p e = sym (fault-stays ds es n (sym e))
+
+-- no refusal has the number of no fault
+pub code-some : (y : Refusal) → 1 ≤ code y
+code-some TooFewTokens = omega arith
+code-some Unparseable = omega arith
+code-some TooShort = omega arith
+code-some Misfit = omega arith
+code-some NoPass = omega arith
+code-some NoFrame = omega arith
+code-some NoRoom = omega arith
+code-some BadTables = omega arith
+code-some TooManyTokens = omega arith
+code-some BadRules = omega arith
+code-some Collides = omega arith
+code-some NoNode = omega arith
+code-some NoEdge = omega arith
+code-some SixthReduce = omega arith
+code-some FarOffset = omega arith
+code-some BadCopy = omega arith
+code-some ManyRows = omega arith
+code-some CutShort = omega arith
+code-some UnknownKind = omega arith
+code-some WrongSize = omega arith
+code-some WrongOrder = omega arith

@@ -1,25 +1,18 @@
-use native.Mathlib.Omega.{arith}
-use borrow.Author.Rules.{rules}
+use Rattle.std.proofs.Common.{rules, arith}
 use Rattle.words.proofs.Counting.{counting-start, counting-on, counting-cut, counting-end}
 use Rattle.words.proofs.count_lists.Goals as goal
 
-pub loop-at-init : goal.loop-at-init
-loop-at-init c = counting-start c.args.ws.now
+pub loop-size-init : goal.loop-size-init
+loop-size-init c = counting-start c.args.ws.now
 
-pub overflow_cast-size : goal.overflow_cast-size
-overflow_cast-size c = omega (arith, c.type_inv.ws c.loop-at.at)
+pub returns-in_default-split_at_checked : goal.returns-in_default-split_at_checked
+returns-in_default-split_at_checked c = counting-cut c.args.ws.now c.loop-size.n c.in-Some.size.now c.in-Some.after.now (search rules) (search rules)
 
-pub returns-then-ws-at : goal.returns-then-ws-at
-returns-then-ws-at c =
-    let l = c.loop-at in
-    counting-cut c.args.ws.now l.n l.at l.invariant (search rules) c.if-ws-at.true
+pub overflow_add-n : goal.overflow_add-n
+overflow_add-n c = omega (arith, c.loop-size.invariant.few)
 
-pub loop-at-preserved : goal.loop-at-preserved
-loop-at-preserved c =
-    let l = c.loop-at in
-    counting-on c.args.ws.now l.n l.at l.invariant (search rules) c.if-ws-at.false
+pub loop-size-preserved : goal.loop-size-preserved
+loop-size-preserved c = search (rules, counting-on c.args.ws.now c.loop-size.n c.in-Some.size.now c.in-Some.after.now (search rules) (search rules))
 
 pub returns : goal.returns
-returns c =
-    let l = c.loop-at in
-    counting-end c.args.ws.now l.n l.at l.invariant (search rules)
+returns c = counting-end c.args.ws.now c.loop-size.n c.loop-size.rest.now c.loop-size.invariant (search rules)

@@ -1,70 +1,42 @@
-use mathlib.Core.Path.{refl, ◌∙◌}
-use Prim.Native.Nat.{◌+◌, ◌≤◌}
-use native.Mathlib.Omega.{arith}
-use lib.ListN.{length}
-use borrow.Author.Rules.{rules}
+use Rattle.std.proofs.Common.{◌≡◌, List, ◌∷◌, refl, sym, ◌∙◌, ap, length, rules, arith}
 use Rattle.desk.specs.Batch.{answer_width}
-use Rattle.desk.specs.Code.{asked_many, lent}
-use Rattle.desk.proofs.Batching.{Ahead, turn, answer-fits, batch-start, batch-more, batch-end}
+use Rattle.desk.specs.Code.{asked_many_over, lent}
+use Rattle.desk.proofs.Batching.{Ahead, Batching, turn, answer-fits, batch-start, batch-more, batch-end}
 use Rattle.desk.proofs.many.parse_all.Goals as goal
+use Rattle.desk.proofs.many.parse_all.Goals.{In-Some}
 
-pub loop-at-init : goal.loop-at-init
-loop-at-init c = (refl, refl, refl, refl, batch-start _ _ _ _ _ _ c.requires.1)
+-- a statement is left, and its tokens after their count
+first : (c : In-Some) → Batching (asked_many_over c.args.ground.now c.args.statements.now) c.args.allowance (lent c.args.frames.now c.args.list.now c.args.work.now)
+    c.args.statements.now c.loop-size.list c.loop-size.answers (c.in-Some.size.now ∷ c.in-Some.after.now) c.loop-size.used.answers c.loop-size.used.list
+first c = rw c.in-Some.ensures.cases.0 at c.loop-size.invariant.4
 
-pub overflow_cast-to : goal.overflow_cast-to
-overflow_cast-to c = omega (arith, c.type_inv.statements c.loop-at.at)
+pub loop-size-init : goal.loop-size-init
+loop-size-init c = (refl, refl, refl, refl, batch-start _ _ _ _ _ _ c.requires.0)
 
-pub overflow_add-to : goal.overflow_add-to
-overflow_add-to c =
-    let turning : Ahead c.args.statements.now c.loop-at.at c.loop-at.invariant.4.rest = let l = c.loop-at in
-    turn _ _ _ _ l.list l.answers l.at l.i l.n l.invariant.4 c.loop-at-test.true in
-    record { fits = omega (arith, turning.within) }
+pub split_at-requires : goal.split_at-requires
+split_at-requires c = (turn _ _ _ _ _ _ _ _ _ _ (first (goal.at.split_at-requires c).In-Some)).within
 
-pub offset_bounds-statements-from : goal.offset_bounds-statements-from
-offset_bounds-statements-from c =
-    let turning : Ahead c.args.statements.now c.loop-at.at c.loop-at.invariant.4.rest = let l = c.loop-at in
-    turn _ _ _ _ l.list l.answers l.at l.i l.n l.invariant.4 c.loop-at-test.true in
-    record { fits = omega (arith, turning.within) }
+pub parse_next-requires : goal.parse_next-requires
+parse_next-requires c =
+    let l = c.loop-size in
+    (l.invariant.4.packed.within, answer-fits _ _ _ _ _ _ _ _ _ _ (first (goal.at.parse_next-requires c).In-Some) (omega (arith, l.invariant.3, c.requires.1)))
 
-pub slice_bounds-parse_next-end : goal.slice_bounds-parse_next-end
-slice_bounds-parse_next-end c =
-    let turning : Ahead c.args.statements.now c.loop-at.at c.loop-at.invariant.4.rest = let l = c.loop-at in
-    turn _ _ _ _ l.list l.answers l.at l.i l.n l.invariant.4 c.loop-at-test.true in
-    turning.within
-
-pub parse_next-n-requires : goal.parse_next-n-requires
-parse_next-n-requires c =
-    let placed : c.loop-at.i + answer_width ≤ length c.loop-at.answers = let l = c.loop-at in
-    answer-fits _ _ _ _ l.list l.answers l.at l.i l.n l.invariant.4 c.loop-at-test.true
-    (omega (arith, l.invariant.3, c.requires.2)) in
-    (c.requires.0, c.loop-at.invariant.4.packed.within, placed)
-
-pub overflow_add-i : goal.overflow_add-i
-overflow_add-i c =
-    let placed : c.loop-at.i + answer_width ≤ length c.loop-at.answers = let l = c.loop-at in
-    answer-fits _ _ _ _ l.list l.answers l.at l.i l.n l.invariant.4 c.loop-at-test.true
-    (omega (arith, l.invariant.3, c.requires.2)) in
-    let l = c.loop-at in
-    record { fits = omega (arith, placed, l.invariant.3) }
-
-pub loop-at-smaller : goal.loop-at-smaller
-loop-at-smaller c = omega (arith, c.loop-at-test.true)
-
-pub loop-at-preserved : goal.loop-at-preserved
-loop-at-preserved c =
-    let l = c.loop-at in (
-      c.parse_next-n.auto.frames ∙ l.invariant.0,
-      c.parse_next-n.auto.list ∙ l.invariant.1,
-      c.parse_next-n.auto.work ∙ l.invariant.2,
-      c.parse_next-n.auto.answers ∙ l.invariant.3,
-      batch-more (asked_many c.args.codes c.args.rules.now c.args.nodes.now c.args.edges.now c.args.statements.now)
-          c.args.allowance (lent c.args.frames.now c.args.list.now c.args.work.now) c.args.statements.now
-          l.list l.answers l.at l.i l.n l.invariant.4 c.loop-at-test.true
-          (lent l.frames l.list l.work) c.parse_next-n.result c.parse_next-n.new.list c.parse_next-n.new.answers
-          (λ j. record { frames = l.invariant.0 j; list = l.invariant.1 j; work = l.invariant.2 j }) c.parse_next-n.ensures,
+pub loop-size-preserved : goal.loop-size-preserved
+loop-size-preserved c =
+    let l = c.loop-size in
+    let b = first (goal.at.loop-size-preserved c).In-Some in (
+      c.parse_next.auto.frames ∙ l.invariant.0,
+      c.parse_next.auto.list ∙ l.invariant.1,
+      c.parse_next.auto.work ∙ l.invariant.2,
+      c.parse_next.auto.answers ∙ l.invariant.3,
+      rw c.split_at.ensures.back
+          (batch-more (asked_many_over c.args.ground.now c.args.statements.now) c.args.allowance (lent c.args.frames.now c.args.list.now c.args.work.now) c.args.statements.now
+          l.list l.answers c.in-Some.size.now c.in-Some.after.now l.used.answers l.used.list b
+          (lent l.frames l.list l.work) c.parse_next.result c.parse_next.new.list c.parse_next.new.answers
+          (λ j. record { frames = l.invariant.0 j; list = l.invariant.1 j; work = l.invariant.2 j }) (rw c.split_at.ensures.front at c.parse_next.ensures)),
     )
 
 pub returns : goal.returns
 returns c =
-    let l = c.loop-at in
-    batch-end _ _ _ _ l.list l.answers l.at l.i l.n l.invariant.4 (search rules)
+    let l = c.loop-size in
+    batch-end _ _ _ _ l.list l.answers l.rest.now l.used.answers l.used.list l.invariant.4 (search rules)

@@ -1,60 +1,47 @@
+use lib.ListN.{length-map}
 use mathlib.Core.Path.{◌≡◌, refl, sym, ◌∙◌}
 use native.Mathlib.Omega.{arith}
 use borrow.Author.Rules.{rules}
+use Rattle.std.proofs.lemmas.Result.{err_from_is_err_and}
+use mathlib.Core.List.{map}
 use lib.ListN.{length}
-use Rattle.rows.specs.Code.{edge_is}
-use Rattle.formula.specs.TailCode.{entries_of}
-use Rattle.formula.proofs.Reducing.{fit_is}
-use Rattle.formula.proofs.Weaving.{plan-on, plan-few, plan-full, plan-end, reduces-count}
+use Rattle.rows.specs.Code.{reduce_is}
+use Rattle.formula.proofs.Weaving.{plan-on, plan-none, plan-end}
 use Rattle.formula.proofs.tail.plan.Goals as goal
 
 pub loop-k-init : goal.loop-k-init
-unfolding entries_of
-loop-k-init c = (search rules, search rules, search rules, search rules, c.requires.1, refl)
+loop-k-init c = (refl, refl, c.requires.0, refl)
+
+pub measure-requires : goal.measure-requires
+measure-requires c = c.loop-k.invariant.2
+
+pub returns-in_err-fit : goal.returns-in_err-fit
+returns-in_err-fit c =
+    let p = err_from_is_err_and c.from_residual.result c.from_residual.ensures.1 in
+    let l = c.loop-k in
+    rw (p.1, p.2, ← l.invariant.3) (plan-none _ _ c.args.reduces.now l.k _ c.loop-k-test.true _ _ _ _ _ _ _ c.in_err-fit.ensures)
 
 pub put-requires : goal.put-requires
 put-requires c =
     let l = c.loop-k in
-    let d = (fit_is _ _ c.in-At.is c.measure-fit.ensures).sized in
-    (omega (arith, l.invariant.2, c.requires.3, c.requires.2, c.loop-k-test.true), omega (arith, l.invariant.3, c.requires.4, c.requires.2, c.loop-k-test.true), omega (arith, d.2, l.invariant.4.fits, l.invariant.4.words))
-
-pub returns-in-TooFew : goal.returns-in-TooFew
-returns-in-TooFew c =
-    let count-is : length (edge_is c.args.e).reduces ≡ c.args.e.count = reduces-count c.args.e (search rules) c.requires.2 in
-    let l = c.loop-k in
-    rw (← l.invariant.5)
-    (plan-few _ _ (edge_is c.args.e).reduces l.k _ (omega (arith, count-is, c.loop-k-test.true)) c.reduce_of-d.ensures _ _ _ _ _ c.measure-fit.ensures _ _ _ c.in-TooFew.is)
-
-pub returns-in-Full : goal.returns-in-Full
-returns-in-Full c =
-    let count-is : length (edge_is c.args.e).reduces ≡ c.args.e.count = reduces-count c.args.e (search rules) c.requires.2 in
-    let l = c.loop-k in
-    rw (← l.invariant.5)
-    (plan-full _ _ (edge_is c.args.e).reduces l.k _ (omega (arith, count-is, c.loop-k-test.true)) c.reduce_of-d.ensures _ _ _ _ _ c.measure-fit.ensures _ _ _ c.in-Full.is)
-
-pub overflow_add-k : goal.overflow_add-k
-overflow_add-k c = omega (arith, c.loop-k-test.true, c.requires.2)
+    let d = c.in_ok-fit.ensures.sized in
+    (omega arith, omega arith, omega (arith, d.2, l.invariant.2.fits, l.invariant.2.words))
 
 pub loop-k-preserved : goal.loop-k-preserved
 loop-k-preserved c =
-    let count-is : length (edge_is c.args.e).reduces ≡ c.args.e.count = reduces-count c.args.e (search rules) c.requires.2 in
-    let l = c.loop-k in
-    let d = (fit_is _ _ c.in-At.is c.measure-fit.ensures).sized in (
-      omega (arith, c.loop-k-test.true),
+    let l = c.loop-k in (
       search rules,
       search rules,
-      search rules,
-      d.0,
+      c.in_ok-fit.ensures.sized.0,
       rw c.put.ensures
-          (sym (plan-on _ _ (edge_is c.args.e).reduces l.k _ (omega (arith, count-is, c.loop-k-test.true)) c.reduce_of-d.ensures _ _ _ _ _ c.measure-fit.ensures _ _ c.in-At.is) ∙ l.invariant.5),
+          (sym (plan-on _ _ c.args.reduces.now l.k _ c.loop-k-test.true _ _ _ _ c.in_ok-fit.fit c.in_ok-fit.ensures) ∙ l.invariant.3),
     )
 
 pub returns : goal.returns
 returns c =
-    let count-is : length (edge_is c.args.e).reduces ≡ c.args.e.count = reduces-count c.args.e (search rules) c.requires.2 in
     let l = c.loop-k in
-    let e : l.k ≡ c.args.e.count = omega (arith, l.invariant.0, c.loop-k-test.false) in
+    let e : l.k ≡ length c.args.reduces.now = omega arith in
     record {
-      outcome = rw e at (sym (plan-end _ _ (edge_is c.args.e).reduces l.k _ _ (omega (arith, count-is, e))) ∙ l.invariant.5);
-      sized = l.invariant.4;
+      outcome = rw e at (sym (plan-end _ _ (map reduce_is c.args.reduces.now) l.k _ _ (omega (arith, e, length-map c.args.reduces.now reduce_is))) ∙ l.invariant.3);
+      sized = l.invariant.2;
     }

@@ -1,37 +1,41 @@
-use mathlib.Core.Path.{◌≡◌}
+use lib.ListN.{length-map}
+use Prim.Native.Nat.{◌+◌}
 use native.Mathlib.Omega.{arith}
-use borrow.Author.Rules.{rules}
+use native.Mathlib.Numerals.{add-one}
 use native.Mathlib.Nat.{sub-zero}
-use lib.ListN.{length, get_or, take}
-use lib.Seq.{get_or-take, length-take-le}
-use Rattle.formula.proofs.Weaving.{rank-here, rank-next, rank-end}
+use Rattle.formula.specs.TailCode.{entry_is, entries_of}
+use Rattle.formula.proofs.Weaving.{entry_at, rank-le, rank-here, rank-next, rank-end}
 use Rattle.formula.proofs.tail.rank.Goals as goal
 
 pub loop-i-init : goal.loop-i-init
-loop-i-init c = (search rules, rw (sub-zero c.args.place) (omega arith))
+loop-i-init c = rw (sub-zero c.args.place) (omega arith)
 
-pub overflow_cast-places : goal.overflow_cast-places
-overflow_cast-places c = omega (arith, c.type_inv.places c.loop-i.i)
+pub returns-then-place-e-clause-counted : goal.returns-then-place-e-clause-counted
+returns-then-place-e-clause-counted c =
+    let i = c.loop-i.i in
+    let d = entry_at c.args.entries.now i (i + 1) _ (add-one i) c.loop-i-test.true in
+    omega (arith, c.loop-i.invariant, rank-here (entries_of c.args.entries.now) c.args.place i _ d c.if-place-e.true)
 
-pub overflow_add-places : goal.overflow_add-places
-overflow_add-places c = omega (arith, c.type_inv.places c.loop-i.i, c.ranges.n)
-
-pub returns-then-place-places : goal.returns-then-place-places
-returns-then-place-places c =
-    let read : (length (take c.args.n c.args.places.now) ≡ c.args.n) × (get_or (take c.args.n c.args.places.now) c.loop-i.i 0 ≡ get_or c.args.places.now c.loop-i.i 0) = (length-take-le c.args.n c.args.places.now c.requires, get_or-take c.args.n c.args.places.now c.loop-i.i 0 c.loop-i-test.true) in
-    let l = c.loop-i in
-    let ps = take c.args.n c.args.places.now in
-    omega (arith, l.invariant.1, rank-here ps c.args.place l.i (omega (arith, read.0, c.loop-i-test.true)) (omega (arith, read.1, c.if-place-places.true)))
+pub returns-then-place-e-clause-within : goal.returns-then-place-e-clause-within
+returns-then-place-e-clause-within c =
+    let i = c.loop-i.i in
+    let es = entries_of c.args.entries.now in
+    let d = entry_at c.args.entries.now i (i + 1) _ (add-one i) c.loop-i-test.true in
+    omega (arith, c.loop-i.invariant, rank-here es c.args.place i _ d c.if-place-e.true, rank-le c.args.place es, c.loop-i-test.true)
 
 pub loop-i-preserved : goal.loop-i-preserved
 loop-i-preserved c =
-    let read : (length (take c.args.n c.args.places.now) ≡ c.args.n) × (get_or (take c.args.n c.args.places.now) c.loop-i.i 0 ≡ get_or c.args.places.now c.loop-i.i 0) = (length-take-le c.args.n c.args.places.now c.requires, get_or-take c.args.n c.args.places.now c.loop-i.i 0 c.loop-i-test.true) in
-    let l = c.loop-i in
-    let ps = take c.args.n c.args.places.now in
-    (search rules, omega (arith, l.invariant.1, rank-next ps c.args.place l.i (omega (arith, read.0, c.loop-i-test.true)) (omega (arith, read.1, c.if-place-places.false))))
+    let i = c.loop-i.i in
+    let d = entry_at c.args.entries.now i (i + 1) _ (add-one i) c.loop-i-test.true in
+    omega (arith, c.loop-i.invariant, rank-next (entries_of c.args.entries.now) c.args.place i _ d c.if-place-e.false)
 
-pub returns : goal.returns
-returns c =
-    let l = c.loop-i in
-    let ps = take c.args.n c.args.places.now in
-    omega (arith, l.invariant.1, rank-end ps c.args.place l.i (omega (arith, length-take-le c.args.n c.args.places.now c.requires, c.loop-i-test.false)))
+pub returns-clause-counted : goal.returns-clause-counted
+returns-clause-counted c =
+    let es = entries_of c.args.entries.now in
+    omega (arith, c.loop-i.invariant, length-map c.args.entries.now entry_is, rank-end es c.args.place c.loop-i.i (omega (arith, length-map c.args.entries.now entry_is)))
+
+pub returns-clause-within : goal.returns-clause-within
+returns-clause-within c =
+    let es = entries_of c.args.entries.now in
+    let l = length-map c.args.entries.now entry_is in
+    omega (arith, c.loop-i.invariant, l, rank-end es c.args.place c.loop-i.i (omega (arith, l)), rank-le c.args.place es)

@@ -14,9 +14,9 @@ pub returns-in_default : goal.returns-in_default
 returns-in_default c =
     let f = c.read_frame-f in
     let x = c.next_row in
-    top-done c.args.room c.args.t.0 c.args.s f.result c.args.nodes.now c.args.edges.now c.args.frames.now c.requires.0 c.requires.1 f.ensures.0 (no_row c.args.s.counts f.result.clone.from.0 f.result.stood f.result.place c.args.edges.now x.result x.ensures c.in_default.is)
+    top-done c.args.room c.args.t.0 c.args.s f.result c.args.nodes.now c.args.edges.now c.args.frames.now c.requires.0 c.requires.1 f.ensures (no_row c.args.s.counts f.result.clone.from.0 f.result.stood f.result.place c.args.edges.now x.result x.ensures c.in_default.is)
 
 pub take_row-requires : goal.take_row-requires
 take_row-requires c =
     let f = c.read_frame-f in
-    (c.requires.0, c.requires.1, f.ensures.0, f.ensures.1, a-row c.args.s.counts f.result.clone.from.0 f.result.stood f.result.place c.args.edges.now c.next_row.result c.next_row.ensures c.in-Row.at c.in-Row.is)
+    (c.requires.0, c.requires.1, f.ensures, a-row c.args.s.counts f.result.clone.from.0 f.result.stood f.result.place c.args.edges.now c.next_row.result c.next_row.ensures c.in-Some.at c.in-Some.is)

@@ -1,35 +1,34 @@
-use borrow.Author.Tests.{not-true, not-false}
-use Rattle.tree.specs.Code.{edges_in}
-use Rattle.garden.proofs.Copying.{kept_same, listed-to, listed-new, copy-kept, copy-far, copy-sixth, copy-added}
+use Rattle.std.proofs.Common.{◌∙◌, sym}
+use Rattle.std.proofs.lemmas.Result.{err_from_is_err_and}
+use Rattle.tree.proofs.Laws.{row-free}
+use Rattle.garden.proofs.Carried.{listed, unlisted}
+use Rattle.garden.proofs.Copying.{kept_same, copy-kept, copy-far, copy-sixth, copy-added}
 use Rattle.garden.proofs.copy.copy_with.Goals as goal
 
-pub returns-in_default : goal.returns-in_default
-returns-in_default c =
-    let found = rw c.in_default.is at c.look.ensures in
-    (λ ns. copy-kept c.args.room c.args.c ns c.args.edges.now c.requires.0 c.args.m c.args.list c.args.e c.in_default.field-0 found, kept_same c.args.room c.args.c c.args.edges.now c.requires.0)
+pub returns-then-is_some : goal.returns-then-is_some
+returns-then-is_some c = (
+  λ ns. copy-kept c.args.room c.args.c ns c.args.edges.now c.requires.0 c.args.m c.args.list c.args.e c.look.result c.look.ensures (sym c.is_some.ensures ∙ c.if-is_some.true),
+  kept_same c.args.room c.args.c c.args.edges.now c.requires.0,
+)
 
-pub returns-then-not-raised : goal.returns-then-not-raised
-returns-then-not-raised c =
-    let a = c.raised_on-raised in
-    let free = rw c.in-Nothing.is at c.look.ensures in
-    (λ ns. copy-far c.args.room c.args.c ns c.args.edges.now c.requires.0 c.args.m c.args.list c.args.e free a.result a.ensures (not-true a.result.ok c.if-not-raised.true), tt)
+pub returns-in_err-more : goal.returns-in_err-more
+returns-in_err-more c =
+    let free = row-free c.args.c c.args.edges.now _ _ _ c.look.result c.look.ensures (sym c.is_some.ensures ∙ c.if-is_some.false) in
+    let p = err_from_is_err_and c.from_residual.result c.from_residual.ensures.1 in
+    rw (p.1, p.2)
+    (λ ns. copy-far c.args.room c.args.c ns c.args.edges.now c.requires.0 c.args.m c.args.list c.args.e free _ (unlisted _ c.raised_on.result c.raised_on.ensures _ c.in_err-more.was), tt)
 
-pub returns-then-not-added : goal.returns-then-not-added
-returns-then-not-added c =
-    let a = c.raised_on-raised in
-    let b = c.extend-added in
-    let free = rw c.in-Nothing.is at c.look.ensures in
-    (λ ns. copy-sixth c.args.room c.args.c ns c.args.edges.now c.requires.0 c.args.m c.args.list c.args.e free a.result a.ensures (not-false a.result.ok c.if-not-raised.false) b.result b.ensures (not-true b.result.ok c.if-not-added.true), tt)
-
-pub put_row-requires : goal.put_row-requires
-put_row-requires c =
-    let b = c.extend-added in
-    let free = rw c.in-Nothing.is at c.look.ensures in
-    (c.requires.0, c.requires.1, rw (listed-to _ _ c.args.e b.result b.ensures) c.requires.2, b.ensures.fits, listed-new _ _ c.args.e b.result b.ensures c.args.m.0 (edges_in c.args.c.edges c.args.edges.now) free)
+pub returns-in_err-reduces : goal.returns-in_err-reduces
+returns-in_err-reduces c =
+    let free = row-free c.args.c c.args.edges.now _ _ _ c.look.result c.look.ensures (sym c.is_some.ensures ∙ c.if-is_some.false) in
+    let more = listed _ c.raised_on.result c.raised_on.ensures c.in_ok-more.more c.in_ok-more.was in
+    let p = err_from_is_err_and c.from_residual-in_err-reduces.result c.from_residual-in_err-reduces.ensures.1 in
+    rw (p.1, p.2)
+    (λ ns. copy-sixth c.args.room c.args.c ns c.args.edges.now c.requires.0 c.args.m c.args.list c.args.e free c.in_ok-more.more more _ (unlisted _ c.extend.result c.extend.ensures _ c.in_err-reduces.was), tt)
 
 pub returns : goal.returns
 returns c =
-    let a = c.raised_on-raised in
-    let b = c.extend-added in
-    let free = rw c.in-Nothing.is at c.look.ensures in
-    (λ ns. copy-added c.args.room c.args.c ns c.args.edges.now c.requires.0 c.args.m c.args.list c.args.e free a.result a.ensures (not-false a.result.ok c.if-not-raised.false) b.result b.ensures (not-false b.result.ok c.if-not-added.false) c.put_row.result c.put_row.new.edges (c.put_row.ensures.0 ns), c.put_row.ensures.1)
+    let free = row-free c.args.c c.args.edges.now _ _ _ c.look.result c.look.ensures (sym c.is_some.ensures ∙ c.if-is_some.false) in
+    let more = listed _ c.raised_on.result c.raised_on.ensures c.in_ok-more.more c.in_ok-more.was in
+    let added = listed _ c.extend.result c.extend.ensures c.in_ok-reduces.reduces c.in_ok-reduces.was in
+    (λ ns. copy-added c.args.room c.args.c ns c.args.edges.now c.requires.0 c.args.m c.args.list c.args.e free c.in_ok-more.more more c.in_ok-reduces.reduces added c.put_row.result c.put_row.new.edges (c.put_row.ensures.0 ns), c.put_row.ensures.1)

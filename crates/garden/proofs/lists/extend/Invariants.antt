@@ -1,9 +1,5 @@
-use Prim.Native.Nat.{◌-◌, ◌≤◌}
 use Rattle.garden.proofs.Carried.{Extended}
 use Rattle.garden.proofs.lists.extend.Given as goal
 
-abbrev pub invariant-loop-k : goal.invariant-loop-k
-invariant-loop-k l = (l.k ≤ l.more.count) × (l.out.count ≤ 5) × Extended l.e l.more l.k l.out
-
-abbrev pub decreases-loop-k : goal.decreases-loop-k
-decreases-loop-k l = l.more.count - l.k
+abbrev pub invariant-loop-d : goal.invariant-loop-d
+invariant-loop-d l = Extended l.fn.list l.d-items l.d-index l.out

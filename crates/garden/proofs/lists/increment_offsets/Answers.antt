@@ -1,25 +1,23 @@
-use mathlib.Core.Path.{◌≡◌}
-use lib.ListN.{length}
-use borrow.Author.Rules.{rules}
+use Rattle.std.proofs.Common.{◌≡◌, rules, length, refl}
 use Rattle.garden.proofs.Carried.{raised-none, raised-more, raises-not, raises-all}
 use Rattle.garden.proofs.lists.increment_offsets.Goals as goal
 
 pub loop-k-init : goal.loop-k-init
 loop-k-init c =
-    let l : length c.args.e.reduces ≡ 5 = search rules in
-    (search rules, l, raised-none c.args.e l)
+    let l : length c.args.list.items ≡ 5 = search rules in
+    (refl, raised-none c.args.list l)
 
 pub returns-then-d-ge-MOST_OFFSET : goal.returns-then-d-ge-MOST_OFFSET
 returns-then-d-ge-MOST_OFFSET c =
-    let lp = c.loop-k in
-    raises-not c.args.e lp.out lp.k lp.invariant.2 lp.invariant.1 (search rules) (search rules) (search rules)
+    let l = c.loop-k in
+    raises-not c.args.list l.k l.items l.invariant.1 c.loop-k-test.true c.if-d-ge-MOST_OFFSET.true
 
 pub loop-k-preserved : goal.loop-k-preserved
 loop-k-preserved c =
-    let lp = c.loop-k in
-    (search rules, lp.invariant.1, raised-more c.args.e lp.out lp.k lp.invariant.2 lp.invariant.1 (search rules) (search rules) (search rules))
+    let l = c.loop-k in
+    (refl, raised-more c.args.list l.k l.items l.invariant.1 c.loop-k-test.true c.if-d-ge-MOST_OFFSET.false)
 
 pub returns : goal.returns
 returns c =
-    let lp = c.loop-k in
-    raises-all c.args.e lp.out lp.k lp.invariant.2 lp.invariant.1 (search rules) (search rules)
+    let l = c.loop-k in
+    raises-all c.args.list l.k l.items l.invariant.1 c.loop-k-test.false

@@ -1,41 +1,24 @@
-use borrow.Author.Rules.{rules}
-use borrow.Author.Tests.{not-true, not-false}
-use Rattle.rows.specs.Code.{edge_is}
-use Rattle.garden.proofs.Carried.{listed, unlisted, leaf-far, leaf-full, leaf-row}
+use Rattle.std.proofs.Common.{◌∙◌}
+use Rattle.rows.specs.Code.{reduces_are}
+use Rattle.std.proofs.lemmas.Result.{err_from_is_err_and}
+use Rattle.garden.proofs.Carried.{listed, unlisted, leaf-far, leaf-full, leaf-listed}
 use Rattle.garden.proofs.lists.leaf_reduces.Goals as goal
 
-pub returns-then-not-raised : goal.returns-then-not-raised
-returns-then-not-raised c =
-    let a = c.args in
-    let raised = c.raised_on-raised in
-    leaf-far a.rule.0 a.e (edge_is a.stored).reduces (unlisted raised.ensures (not-true _ c.if-not-raised.true)) (search rules)
+pub returns-in_err-raised : goal.returns-in_err-raised
+returns-in_err-raised c =
+    let p = err_from_is_err_and c.from_residual.result c.from_residual.ensures.1 in
+    rw (p.1, p.2)
+    (leaf-far c.args.rule.0 c.args.e (reduces_are c.args.stored) _ (unlisted _ c.raised_on.result c.raised_on.ensures _ c.in_err-raised.was))
 
-pub extend-own-requires : goal.extend-own-requires
-extend-own-requires c = (search rules, c.raised_on-raised.ensures.fits)
-
-pub returns-then-not-own : goal.returns-then-not-own
-returns-then-not-own c =
-    let a = c.args in
-    let raised = c.raised_on-raised in
-    let own = c.extend-own in
-    leaf-full a.rule.0 a.e (edge_is a.stored).reduces (edge_is raised.result.edge).reduces
-    (listed raised.ensures (not-false _ c.if-not-raised.false))
-    (unlisted own.ensures (not-true _ c.if-not-own.true))
-    (search rules)
-
-pub push-added-requires : goal.push-added-requires
-push-added-requires c = c.extend-own.ensures.fits
+pub returns-in_err-own : goal.returns-in_err-own
+returns-in_err-own c =
+    let raised = listed _ c.raised_on.result c.raised_on.ensures _ c.in_ok-raised.was in
+    let p = err_from_is_err_and c.from_residual-in_err-own.result c.from_residual-in_err-own.ensures.1 in
+    rw (p.1, p.2)
+    (leaf-full c.args.rule.0 c.args.e (reduces_are c.args.stored) _ raised _ (unlisted _ c.extend.result c.extend.ensures _ c.in_err-own.was))
 
 pub returns : goal.returns
 returns c =
-    let a = c.args in
-    let raised = c.raised_on-raised in
-    let own = c.extend-own in
-    let added = c.push-added in
-    leaf-row a.rule.0 a.e (edge_is a.stored).reduces (edge_is raised.result.edge).reduces
-    (listed raised.ensures (not-false _ c.if-not-raised.false))
-    own.result.edge
-    (listed own.ensures (not-false _ c.if-not-own.false))
-    own.ensures.rest
-    added.result
-    added.ensures
+    let raised = listed _ c.raised_on.result c.raised_on.ensures c.in_ok-raised.raised c.in_ok-raised.was in
+    let own = listed _ c.extend.result c.extend.ensures c.in_ok-own.own c.in_ok-own.was in
+    c.push.ensures ∙ leaf-listed c.args.rule.0 c.args.e (reduces_are c.args.stored) _ raised _ own

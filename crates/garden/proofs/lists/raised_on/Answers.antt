@@ -1,13 +1,10 @@
-use mathlib.Core.Path.{refl}
-use borrow.Author.Rules.{rules}
-use Rattle.rows.specs.Code.{edge_is}
+use Rattle.std.proofs.Common.{◌∙◌, sym}
+use Rattle.rows.specs.Code.{reduces_are}
 use Rattle.garden.proofs.Carried.{raised-zero, raised-other}
 use Rattle.garden.proofs.lists.raised_on.Goals as goal
 
 pub returns-then-kind-eq0 : goal.returns-then-kind-eq0
-returns-then-kind-eq0 c =
-    rw (raised-zero c.args.kind (edge_is c.args.e).reduces (search rules)) (record { answer = refl; rest = refl; fits = search rules })
+returns-then-kind-eq0 c = sym (raised-zero c.args.kind (reduces_are c.args.list) c.if-kind-eq0.true)
 
 pub returns : goal.returns
-returns c =
-    rw (raised-other c.args.kind (edge_is c.args.e).reduces c.if-kind-eq0.false) c.increment_offsets.ensures
+returns c = c.increment_offsets.ensures ∙ sym (raised-other c.args.kind (reduces_are c.args.list) c.if-kind-eq0.false)

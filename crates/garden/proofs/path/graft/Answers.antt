@@ -1,4 +1,4 @@
-use lib.ListN.{length}
+use Rattle.std.proofs.Common.{length}
 use Rattle.garden.proofs.Paths.{graft-branch, graft-as-leaf}
 use Rattle.garden.proofs.path.graft.Goals as goal
 

@@ -1,45 +1,32 @@
-use native.Mathlib.Omega.{arith}
-use Rattle.garden.proofs.Paths.{parts-start, parts-end, prefix_here, shadow-here, parts-here, parts-stuck, parts_next}
+use Rattle.garden.proofs.Paths.{parts-start, prefix-ends, shadow-ends, parts-here, parts-stuck, parts_next, differ, alike}
 use Rattle.garden.proofs.path.part_at.Goals as goal
 
-pub loop-i-init : goal.loop-i-init
-loop-i-init c =
-    parts-start c.args.c c.args.edges.now c.args.prefix.now c.args.shadow.now c.requires.1 c.requires.2 c.requires.3
+pub loop-p-init : goal.loop-p-init
+loop-p-init c = parts-start c.args.c c.args.edges.now c.args.prefix.now c.args.shadow.now c.requires.1 c.requires.2
 
-pub same_pair-requires : goal.same_pair-requires
-same_pair-requires c =
-    let l = c.loop-i in
-    ((prefix_here c.args.c c.args.edges.now c.args.prefix.now c.args.shadow.now l.n.0 l.i l.invariant c.lesser-end.result c.lesser-end.ensures c.loop-i-test.true).inside, (shadow-here c.args.c c.args.edges.now c.args.prefix.now c.args.shadow.now l.n.0 l.i l.invariant c.lesser-end.result c.lesser-end.ensures c.loop-i-test.true).inside)
+pub returns-in_err-q : goal.returns-in_err-q
+returns-in_err-q c =
+    let l = c.loop-p in
+    rw c.from_residual.ensures (tt, shadow-ends c.args.c c.args.edges.now c.args.prefix.now c.args.shadow.now l.node.0 l.ps.now l.qs.now l.invariant c.in_err-q.ensures)
 
-pub returns-then-not-same_pair : goal.returns-then-not-same_pair
-returns-then-not-same_pair c =
-    let l = c.loop-i in
-    let less = c.loop-i-test.true in
-    ((l.invariant.node_in, (prefix_here c.args.c c.args.edges.now c.args.prefix.now c.args.shadow.now l.n.0 l.i l.invariant c.lesser-end.result c.lesser-end.ensures less).inside, (shadow-here c.args.c c.args.edges.now c.args.prefix.now c.args.shadow.now l.n.0 l.i l.invariant c.lesser-end.result c.lesser-end.ensures less).inside, l.invariant.prefix-good), parts-here c.args.c c.args.edges.now c.args.prefix.now c.args.shadow.now l.n.0 l.i l.invariant c.lesser-end.result c.lesser-end.ensures less c.same_pair.result c.same_pair.ensures c.if-not-same_pair.true)
+pub returns-then-ne : goal.returns-then-ne
+returns-then-ne c =
+    let l = c.loop-p in
+    ((l.invariant.node_in, l.invariant.good), parts-here c.args.c c.args.edges.now c.args.prefix.now c.args.shadow.now l.node.0 l.ps.now l.qs.now l.invariant c.in-Some.p c.in_ok-q.q c.in-Some.ps_after c.in_ok-q.qs_after c.in-Some.ensures c.in_ok-q.ensures (differ _ _ c.ne.ensures c.if-ne.true))
 
-pub follow_kind-reached-requires : goal.follow_kind-reached-requires
-follow_kind-reached-requires c =
-    let l = c.loop-i in
-    (c.requires.0, (prefix_here c.args.c c.args.edges.now c.args.prefix.now c.args.shadow.now l.n.0 l.i l.invariant c.lesser-end.result c.lesser-end.ensures c.loop-i-test.true).inside)
+pub returns-in_err-node : goal.returns-in_err-node
+returns-in_err-node c =
+    let l = c.loop-p in
+    let f = c.follow in
+    rw c.from_residual-in_err-node.ensures (tt, parts-stuck c.args.c c.args.edges.now c.args.prefix.now c.args.shadow.now l.node.0 l.ps.now l.qs.now l.invariant c.in-Some.p c.in_ok-q.q c.in-Some.ps_after c.in_ok-q.qs_after c.in-Some.ensures c.in_ok-q.ensures (alike _ _ c.ne.ensures c.if-ne.false) f.result f.ensures.1 c.in_err-node.was)
 
-pub returns-in-Nothing : goal.returns-in-Nothing
-returns-in-Nothing c =
-    let l = c.loop-i in
-    let f = c.follow_kind-reached in
-    (tt, parts-stuck c.args.c c.args.edges.now c.args.prefix.now c.args.shadow.now l.n.0 l.i l.invariant c.lesser-end.result c.lesser-end.ensures c.loop-i-test.true c.same_pair.result c.same_pair.ensures c.if-not-same_pair.false f.result f.ensures.1 c.in-Nothing.is)
-
-pub overflow_add-i : goal.overflow_add-i
-overflow_add-i c =
-    let l = c.loop-i in
-    record { fits = omega (arith, (prefix_here c.args.c c.args.edges.now c.args.prefix.now c.args.shadow.now l.n.0 l.i l.invariant c.lesser-end.result c.lesser-end.ensures c.loop-i-test.true).inside) }
-
-pub loop-i-preserved : goal.loop-i-preserved
-loop-i-preserved c =
-    let l = c.loop-i in
-    let f = c.follow_kind-reached in
-    parts_next c.args.c c.args.edges.now c.args.prefix.now c.args.shadow.now l.n.0 l.i l.invariant c.lesser-end.result c.lesser-end.ensures c.loop-i-test.true c.same_pair.result c.same_pair.ensures c.if-not-same_pair.false f.result f.ensures.1 c.in-Node.to c.in-Node.is f.ensures.0
+pub loop-p-preserved : goal.loop-p-preserved
+loop-p-preserved c =
+    let l = c.loop-p in
+    let f = c.follow in
+    parts_next c.args.c c.args.edges.now c.args.prefix.now c.args.shadow.now l.node.0 l.ps.now l.qs.now l.invariant c.in-Some.p c.in_ok-q.q c.in-Some.ps_after c.in_ok-q.qs_after c.in-Some.ensures c.in_ok-q.ensures (alike _ _ c.ne.ensures c.if-ne.false) f.result f.ensures.1 c.in_ok-node.node c.in_ok-node.was f.ensures.0
 
 pub returns : goal.returns
 returns c =
-    let l = c.loop-i in
-    (tt, parts-end c.args.c c.args.edges.now c.args.prefix.now c.args.shadow.now l.n.0 l.i l.invariant c.lesser-end.result c.lesser-end.ensures c.loop-i-test.false)
+    let l = c.loop-p in
+    (tt, prefix-ends c.args.c c.args.edges.now c.args.prefix.now c.args.shadow.now l.node.0 l.ps.now l.qs.now l.invariant c.in_default.ensures)

@@ -1,15 +1,21 @@
-use borrow.Author.Tests.{not-true, not-false}
-use mathlib.Core.Path.{refl}
+use Rattle.rows.specs.Code.{reduces_are}
+use Rattle.std.proofs.lemmas.Result.{err_from_is_err_and}
+use Rattle.garden.proofs.Carried.{listed, unlisted}
 use Rattle.garden.proofs.Copying.{kept_same}
-use Rattle.garden.proofs.Taking.{refused-keeps, other-refused, other-begins}
+use Rattle.garden.proofs.Taking.{other-refused, other-begins}
 use Rattle.garden.proofs.row.old_branch.Goals as goal
 
-pub returns-then-not-added : goal.returns-then-not-added
-returns-then-not-added c =
-    let a = c.store_other-added in
-    λ z ns es s. (other-refused z c.args.c ns es s c.args.raised c.args.e c.args.d a.result a.ensures c.refused.result c.refused.ensures (not-true _ c.if-not-added.true), refused-keeps c.args.c es es c.refused.result _ c.args.e c.refused.ensures)
+pub returns-in_err-stored : goal.returns-in_err-stored
+returns-in_err-stored c =
+    let a = c.store_other in
+    let p = err_from_is_err_and c.from_residual.result c.from_residual.ensures.1 in
+    rw (p.1, p.2)
+    (λ z ns es s. (other-refused z c.args.c ns es s (reduces_are c.args.stored) c.args.e c.args.d _ (unlisted _ a.result a.ensures _ c.in_err-stored.was), tt))
 
 pub returns : goal.returns
 returns c =
-    let a = c.store_other-added in
-    λ z ns es s. (other-begins z c.args.c ns es s c.args.raised c.args.e c.args.d a.result a.ensures _ (not-false _ c.if-not-added.false) refl c.requires.0 a.ensures.fits, kept_same z c.args.c es s.rowed)
+    let a = c.store_other in
+    λ z ns es s. (
+      other-begins z c.args.c ns es s (reduces_are c.args.stored) c.args.e c.args.d c.in_ok-stored.stored (listed _ a.result a.ensures c.in_ok-stored.stored c.in_ok-stored.was) c.requires,
+      kept_same z c.args.c es s.rowed,
+    )

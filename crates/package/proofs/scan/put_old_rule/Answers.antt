@@ -1,65 +1,39 @@
-use native.Mathlib.Omega.{arith}
-use mathlib.Core.Path.{◌∙◌}
-use Prim.Native.Nat.{◌+◌, ◌≤◌}
-use lib.ListN.{length}
-use Rattle.package.proofs.Renewing.{old-body, old-start, old-item, old-more, old-end}
+use Rattle.std.proofs.Common.{◌≡◌, ◌+◌, ◌*◌, ◌≤◌, arith, length}
+use Rattle.package.proofs.Renewing.{old-body, old-start, item_at, item-here, old-more, old-end}
 use Rattle.package.proofs.scan.put_old_rule.Goals as goal
 
-pub slice_bounds-put_words-end : goal.slice_bounds-put_words-end
-slice_bounds-put_words-end c =
-    (old-body c.args.body.now c.requires.0).0
+pub split_at-requires : goal.split_at-requires
+split_at-requires c = (old-body c.args.body.now c.requires.0).0
 
-pub loop-i-init : goal.loop-i-init
-loop-i-init c =
-    old-start c.put_words.new.to (c.args.at + 2) c.args.body.now c.requires.0
-
-pub overflow_add-end : goal.overflow_add-end
-overflow_add-end c =
-    let fits : c.loop-i.i + 8 ≤ length c.args.body.now = let l = c.loop-i in
-    let a = c.args in
-    (old-item c.put_words.new.to (a.at + 2) a.body.now l.to l.next l.v l.i l.invariant c.loop-i-test.true).0 in
-    omega (arith, fits)
-
-pub slice_bounds-put_item-end : goal.slice_bounds-put_item-end
-slice_bounds-put_item-end c =
-    let fits : c.loop-i.i + 8 ≤ length c.args.body.now = let l = c.loop-i in
-    let a = c.args in
-    (old-item c.put_words.new.to (a.at + 2) a.body.now l.to l.next l.v l.i l.invariant c.loop-i-test.true).0 in
-    fits
+pub loop-item-init : goal.loop-item-init
+loop-item-init c = old-start c.copy_words.new.to (c.args.at + 2) c.args.body.now c.requires.0
 
 pub put_item-v-requires : goal.put_item-v-requires
 put_item-v-requires c =
-    let l = c.loop-i in
-    let a = c.args in
-    let o = l.invariant in (
-      (old-item c.put_words.new.to (a.at + 2) a.body.now l.to l.next l.v l.i o c.loop-i-test.true).2,
-      omega (arith, o.few, o.inside, c.requires.1, c.requires.2),
-      omega (arith, o.slots, o.inside, c.requires.1),
-    )
+    let o = c.loop-item.invariant in
+    (omega (arith, o.few, o.inside, c.requires.1, c.requires.2), omega (arith, o.slots, o.inside, c.requires.1))
 
-pub overflow_add-next-in-loop-i : goal.overflow_add-next-in-loop-i
-overflow_add-next-in-loop-i c =
-    let o = c.loop-i.invariant in
+pub overflow_add-next-in-loop-item : goal.overflow_add-next-in-loop-item
+overflow_add-next-in-loop-item c =
+    let o = c.loop-item.invariant in
     omega (arith, o.few, o.inside, c.requires.1, c.requires.2)
 
-pub loop-i-smaller : goal.loop-i-smaller
-loop-i-smaller c =
-    let fits : c.loop-i.i + 8 ≤ length c.args.body.now = let l = c.loop-i in
+pub loop-item-preserved : goal.loop-item-preserved
+loop-item-preserved c =
+    let l = c.loop-item in
     let a = c.args in
-    (old-item c.put_words.new.to (a.at + 2) a.body.now l.to l.next l.v l.i l.invariant c.loop-i-test.true).0 in
-    omega (arith, fits)
-
-pub loop-i-preserved : goal.loop-i-preserved
-loop-i-preserved c =
-    let l = c.loop-i in
-    let a = c.args in
-    old-more c.put_words.new.to (a.at + 2) a.body.now l.to c.put_item-v.new.to l.next l.v c.put_item-v.result l.i l.invariant c.loop-i-test.true c.put_item-v.ensures c.put_item-v.auto.to
-
-pub shape_of-to : goal.shape_of-to
-shape_of-to c = c.loop-i.invariant.kept ∙ c.put_words.auto.to
+    let k = l.item-index in
+    let s = c.split_at in
+    let next : 8 + 8 * k + 8 ≡ 8 + 8 * (k + 1) = omega arith in
+    let inside : 8 + 8 * k + 8 ≤ length a.body.now = omega (arith, c.as_chunks.ensures.front_len, s.ensures.back_len, c.loop-item-test.true) in
+    let here = item-here a.body.now s.result.1.now c.as_chunks.result.0.now k s.ensures.back c.as_chunks.ensures.front (omega (arith, c.as_chunks.ensures.front_len, c.loop-item-test.true)) in
+    rw (← next) (old-more c.copy_words.new.to (a.at + 2) a.body.now l.to c.put_item-v.new.to l.next l.v c.put_item-v.result (item_at k) l.invariant
+    inside (rw here at c.put_item-v.ensures) c.put_item-v.auto.to)
 
 pub returns : goal.returns
 returns c =
-    let l = c.loop-i in
+    let l = c.loop-item in
     let a = c.args in
-    old-end a.to.now c.put_words.new.to a.at a.body.now l.to l.next l.v l.i c.requires.0 c.put_words.auto.to c.put_words.ensures l.invariant c.loop-i-test.false
+    let b = old-body a.body.now c.requires.0 in
+    old-end a.to.now c.copy_words.new.to a.at a.body.now l.to l.next l.v (item_at l.item-index) c.requires.0 c.copy_words.auto.to
+    (rw c.split_at.ensures.front at c.copy_words.ensures) l.invariant (omega (arith, b.1, c.as_chunks.ensures.front_len, c.split_at.ensures.back_len, c.loop-item-test.false))

@@ -2,6 +2,7 @@ use native.Mathlib.Nat.{sub-zero}
 use mathlib.Core.Path.{refl}
 use Rattle.tree.specs.Code.{room_of, grown_of}
 use native.Mathlib.Omega.{arith}
+use Rattle.std.proofs.lemmas.Result.{err_from_is_err_and}
 use Rattle.tree.proofs.Converting.{going_more, going-refused, going_end, nodes-step, nodes-end}
 use Rattle.tree.proofs.convert.convert_nodes.Goals as goal
 
@@ -9,20 +10,22 @@ pub loop-n-init : goal.loop-n-init
 loop-n-init c =
     record { rowed = c.requires.0; nodes-kept = refl; kept = refl; same = rw sub-zero }
 
-pub convert_at-grew-requires : goal.convert_at-grew-requires
-convert_at-grew-requires c =
+pub convert_at-requires : goal.convert_at-requires
+convert_at-requires c =
     let l = c.loop-n in
     (l.invariant.rowed, omega (arith, l.invariant.nodes-kept, c.requires.1), omega (arith, l.invariant.nodes-kept, c.requires.2))
 
-pub returns-in-Refused : goal.returns-in-Refused
-returns-in-Refused c =
+pub returns-in_err-c : goal.returns-in_err-c
+returns-in_err-c c =
     let l = c.loop-n in
-    going-refused c.args.room c.args.start c.args.edges.now l.c c.args.nodes.now l.edges _ _ l.invariant _ _ (nodes-step (room_of c.args.room) c.args.change.rule.0 c.args.change.result.0 c.args.change.source.0 c.args.start.nodes l.n (grown_of l.c c.args.nodes.now l.edges) c.loop-n-test.true) c.convert_at-grew.result c.convert_at-grew.new.edges c.convert_at-grew.ensures c.in-Refused.f c.in-Refused.is
+    let p = err_from_is_err_and c.from_residual.result c.from_residual.ensures.1 in
+    rw (p.1, p.2)
+    (going-refused c.args.room c.args.start c.args.edges.now l.c c.args.nodes.now l.edges _ _ l.invariant _ _ (nodes-step (room_of c.args.room) c.args.change.rule.0 c.args.change.result.0 c.args.change.source.0 c.args.start.nodes l.n (grown_of l.c c.args.nodes.now l.edges) c.loop-n-test.true) c.convert_at.result c.convert_at.new.edges c.convert_at.ensures _ c.in_err-c.was)
 
 pub loop-n-preserved : goal.loop-n-preserved
 loop-n-preserved c =
     let l = c.loop-n in
-    going_more c.args.room c.args.start c.args.edges.now l.c c.args.nodes.now l.edges _ _ l.invariant _ _ (nodes-step (room_of c.args.room) c.args.change.rule.0 c.args.change.result.0 c.args.change.source.0 c.args.start.nodes l.n (grown_of l.c c.args.nodes.now l.edges) c.loop-n-test.true) c.convert_at-grew.result c.convert_at-grew.new.edges c.convert_at-grew.ensures c.in-On.next c.in-On.is c.convert_at-grew.auto.edges
+    going_more c.args.room c.args.start c.args.edges.now l.c c.args.nodes.now l.edges _ _ l.invariant _ _ (nodes-step (room_of c.args.room) c.args.change.rule.0 c.args.change.result.0 c.args.change.source.0 c.args.start.nodes l.n (grown_of l.c c.args.nodes.now l.edges) c.loop-n-test.true) c.convert_at.result c.convert_at.new.edges c.convert_at.ensures _ c.in_ok-c.was c.convert_at.auto.edges
 
 pub returns : goal.returns
 returns c =

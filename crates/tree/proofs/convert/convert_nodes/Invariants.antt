@@ -15,7 +15,4 @@ abbrev pub todo : lent.Room → Change → ℕ → ℕ → Counts → List ℕ �
 todo z h k n c ns es = convert_nodes (room_of z) h.rule.0 h.result.0 h.source.0 k n (grown_of c ns es)
 
 abbrev pub invariant-loop-n : goal.invariant-loop-n
-invariant-loop-n l = Going l.room l.initial.c l.initial.edges l.c l.edges (todo l.room l.change (l.end - l.n) l.n l.c l.nodes l.edges) (todo l.room l.change l.end 0 l.initial.c l.nodes l.initial.edges)
-
-abbrev pub decreases-loop-n : goal.decreases-loop-n
-decreases-loop-n l = l.end - l.n
+invariant-loop-n l = Going l.room l.initial.c l.initial.edges l.c l.edges (todo l.room l.change (l.n-end - l.n) l.n l.c l.nodes l.edges) (todo l.room l.change l.n-end 0 l.initial.c l.nodes l.initial.edges)

@@ -11,4 +11,4 @@ returns c =
     let k = c.conversion_of in
     let t = c.result_of-result in
     rule-converted c.args.room c.args.c c.args.nodes.now c.args.edges.now c.args.no.0 c.args.rule.now k.result k.ensures
-    c.in-From.source t.result c.convert_nodes.result c.convert_nodes.new.edges c.in-From.is t.ensures c.requires.1 c.convert_nodes.ensures
+    c.in-Some.source t.result c.convert_nodes.result c.convert_nodes.new.edges c.in-Some.is t.ensures c.requires.1 c.convert_nodes.ensures

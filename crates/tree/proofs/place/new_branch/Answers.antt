@@ -1,12 +1,15 @@
+use Rattle.std.proofs.lemmas.Result.{err_from_is_err_and}
 use Rattle.tree.proofs.Placing.{branch-made, branch_stuck}
 use Rattle.tree.proofs.place.new_branch.Goals as goal
 
-pub returns-in-On : goal.returns-in-On
-returns-in-On c =
-    branch-made c.args.room c.args.c c.args.nodes.now c.args.edges.now c.requires.0 c.args.n.0 c.args.kind c.args.symbol.0
-    c.add_node-grew.result c.add_node-grew.new.nodes c.add_node-grew.new.edges c.add_node-grew.ensures c.in-On.next c.in-On.is
+pub returns-in_err-next : goal.returns-in_err-next
+returns-in_err-next c =
+    let p = err_from_is_err_and c.from_residual.result c.from_residual.ensures.1 in
+    rw (p.1, p.2)
+    (branch_stuck c.args.room c.args.c c.args.nodes.now c.args.edges.now c.requires.0 c.args.key.from.0 c.args.key.kind c.args.key.symbol.0
+    c.add_node.result c.add_node.new.nodes c.add_node.new.edges c.add_node.ensures _ c.in_err-next.was)
 
-pub returns-in-Refused : goal.returns-in-Refused
-returns-in-Refused c =
-    branch_stuck c.args.room c.args.c c.args.nodes.now c.args.edges.now c.requires.0 c.args.n.0 c.args.kind c.args.symbol.0
-    c.add_node-grew.result c.add_node-grew.new.nodes c.add_node-grew.new.edges c.add_node-grew.ensures c.in-Refused.f c.in-Refused.is
+pub returns : goal.returns
+returns c =
+    branch-made c.args.room c.args.c c.args.nodes.now c.args.edges.now c.requires.0 c.args.key.from.0 c.args.key.kind c.args.key.symbol.0
+    c.add_node.result c.add_node.new.nodes c.add_node.new.edges c.add_node.ensures c.in_ok-next.next c.in_ok-next.was

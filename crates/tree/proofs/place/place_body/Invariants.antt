@@ -1,10 +1,6 @@
-use Prim.Native.Nat.{◌-◌}
 use Rattle.rules.specs.Rules.{items_of}
 use Rattle.tree.proofs.Placing.{Left}
 use Rattle.tree.proofs.place.place_body.Given as goal
 
 abbrev pub invariant-loop-k : goal.invariant-loop-k
 invariant-loop-k l = Left l.room l.rule.0 (items_of l.body) l.initial.c l.initial.nodes l.initial.edges l.c l.nodes l.edges l.n.0 l.k
-
-abbrev pub decreases-loop-k : goal.decreases-loop-k
-decreases-loop-k l = l.last - l.k

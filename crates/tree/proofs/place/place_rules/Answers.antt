@@ -1,63 +1,35 @@
-use lib.ListN.{length-drop}
-use native.Mathlib.Omega.{arith}
-use Rattle.words.proofs.Theorems.Parts.{part-all}
-use Rattle.tree.proofs.Placing.{rest-start, rest-here, rest-few, rest_more, rest-refused, rest_end}
+use Rattle.std.proofs.lemmas.Result.{err_from_is_err_and}
+use Rattle.tree.proofs.Placing.{rest-start, rest_more, rest-refused, rest_end}
 use Rattle.tree.proofs.place.place_rules.Goals as goal
 
-pub loop-i-init : goal.loop-i-init
-loop-i-init c =
-    rest-start c.args.room c.args.rules.now c.args.start c.args.nodes.now c.args.edges.now c.requires.0 c.requires.1
+pub loop-no-init : goal.loop-no-init
+loop-no-init c =
+    rw (c.into_iter-no-iterator.ensures.into_iter_gives, c.each-no-items.ensures.0, c.each-no-items.ensures.1)
+    (rest-start c.args.room c.args.rules.now c.args.start c.args.nodes.now c.args.edges.now c.requires.0 c.requires.1)
 
-pub overflow_add-n : goal.overflow_add-n
-overflow_add-n c =
-    let l = c.loop-i in
-    let ws = c.args.rules.now in
-    record { fits = omega (arith, rest-few c.args.room ws c.args.start c.args.nodes.now c.args.edges.now l.c l.nodes l.edges l.n l.i l.invariant c.loop-i-test.true) }
+pub place_rule-requires : goal.place_rule-requires
+place_rule-requires c =
+    let s = c.in-Some.ensures.steps in
+    (c.loop-no.invariant.stands, rw s.3 s.1)
 
-pub place_rule-grew-requires : goal.place_rule-grew-requires
-place_rule-grew-requires c =
-    let l = c.loop-i in
-    let ws = c.args.rules.now in
-    (l.invariant.stands, rw (part-all ws l.i) (rest-here c.args.room ws c.args.start c.args.nodes.now c.args.edges.now l.c l.nodes l.edges l.n l.i l.invariant c.loop-i-test.true).good)
+pub returns-in_err-c : goal.returns-in_err-c
+returns-in_err-c c =
+    let l = c.loop-no in
+    let s = c.in-Some.ensures.steps in
+    let p = err_from_is_err_and c.from_residual.result c.from_residual.ensures.1 in
+    rw (p.1, p.2)
+    (rest-refused c.args.room c.args.rules.now c.args.start c.args.nodes.now c.args.edges.now l.c l.nodes l.edges _ _ l.invariant s.0
+    c.place_rule.result c.place_rule.new.nodes c.place_rule.new.edges (rw (s.2, s.3) at c.place_rule.ensures) _ c.in_err-c.was)
 
-pub returns-in-Refused : goal.returns-in-Refused
-returns-in-Refused c =
-    let l = c.loop-i in
-    let ws = c.args.rules.now in
-    rest-refused c.args.room ws c.args.start c.args.nodes.now c.args.edges.now l.c l.nodes l.edges l.n l.i l.invariant c.loop-i-test.true
-    c.place_rule-grew.result c.place_rule-grew.new.nodes c.place_rule-grew.new.edges (rw (part-all ws l.i) at c.place_rule-grew.ensures) c.in-Refused.f c.in-Refused.is
-
-pub size_of-i-requires : goal.size_of-i-requires
-size_of-i-requires c =
-    let l = c.loop-i in
-    let ws = c.args.rules.now in
-    rw (part-all ws l.i) (omega (arith, (rest-here c.args.room ws c.args.start c.args.nodes.now c.args.edges.now l.c l.nodes l.edges l.n l.i l.invariant c.loop-i-test.true).two, length-drop l.i ws))
-
-pub overflow_add-i : goal.overflow_add-i
-overflow_add-i c =
-    let l = c.loop-i in
-    let ws = c.args.rules.now in
-    let size = rw (part-all ws l.i) at c.size_of-i.ensures in
-    record { fits = omega (arith, size, (rest-here c.args.room ws c.args.start c.args.nodes.now c.args.edges.now l.c l.nodes l.edges l.n l.i l.invariant c.loop-i-test.true).fits) }
-
-pub loop-i-smaller : goal.loop-i-smaller
-loop-i-smaller c =
-    let l = c.loop-i in
-    let ws = c.args.rules.now in
-    let size = rw (part-all ws l.i) at c.size_of-i.ensures in
-    omega (arith, size, (rest-here c.args.room ws c.args.start c.args.nodes.now c.args.edges.now l.c l.nodes l.edges l.n l.i l.invariant c.loop-i-test.true).fits)
-
-pub loop-i-preserved : goal.loop-i-preserved
-loop-i-preserved c =
-    let l = c.loop-i in
-    let ws = c.args.rules.now in
-    let size = rw (part-all ws l.i) at c.size_of-i.ensures in
-    rw size (rest_more c.args.room ws c.args.start c.args.nodes.now c.args.edges.now l.c l.nodes l.edges l.n l.i l.invariant c.loop-i-test.true
-    c.place_rule-grew.result c.place_rule-grew.new.nodes c.place_rule-grew.new.edges (rw (part-all ws l.i) at c.place_rule-grew.ensures) c.in-On.next c.in-On.is
-    c.place_rule-grew.auto.nodes c.place_rule-grew.auto.edges)
+pub loop-no-preserved : goal.loop-no-preserved
+loop-no-preserved c =
+    let l = c.loop-no in
+    let s = c.in-Some.ensures.steps in
+    rw (s.4, s.5)
+    (rest_more c.args.room c.args.rules.now c.args.start c.args.nodes.now c.args.edges.now l.c l.nodes l.edges _ _ l.invariant s.0
+    c.place_rule.result c.place_rule.new.nodes c.place_rule.new.edges (rw (s.2, s.3) at c.place_rule.ensures) _ c.in_ok-c.was c.place_rule.auto.nodes c.place_rule.auto.edges)
 
 pub returns : goal.returns
 returns c =
-    let l = c.loop-i in
-    let ws = c.args.rules.now in
-    rest_end c.args.room ws c.args.start c.args.nodes.now c.args.edges.now l.c l.nodes l.edges l.n l.i l.invariant c.loop-i-test.false
+    let l = c.loop-no in
+    rest_end c.args.room c.args.rules.now c.args.start c.args.nodes.now c.args.edges.now l.c l.nodes l.edges _ _ l.invariant c.in-None.ensures.steps

@@ -7,4 +7,4 @@ look_up-requires c =
 
 pub returns : goal.returns
 returns c =
-    looks c.args.c c.args.edges.now c.args.from.0 c.args.kind c.args.symbol.0 c.look_up.result c.requires.fits c.look_up.ensures
+    looks c.args.c c.args.edges.now c.args.key.from.0 c.args.key.kind c.args.key.symbol.0 c.look_up.result c.requires.fits c.look_up.ensures

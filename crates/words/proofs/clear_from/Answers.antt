@@ -1,7 +1,0 @@
-use borrow.Author.Rules.{rules}
-use Rattle.words.proofs.Laws.{cleared-from}
-use Rattle.words.proofs.clear_from.Goals as goal
-
-pub returns : goal.returns
-returns c =
-    cleared-from c.args.s.now c.clear.new.s c.args.at c.clear.ensures (search rules)
