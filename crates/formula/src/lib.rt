@@ -35,7 +35,8 @@ pub enum Unfit {
 
 // ---- reducing
 
-// The rule is reduced under the top `offset` trees: too few trees before a full list. A rule that is not there has too few.
+// The rule is reduced under the top `offset` trees: too few trees before a full list. A rule that is not there has too few. The trees are taken
+// over by their fields, as they were written: a copy of both at once waits for the two.
 pub fn reduce(
     book: &RuleBook,
     room: usize,
@@ -51,7 +52,10 @@ pub fn reduce(
 {
     let fit = sizes::measure(book, room, work, s, rule, offset)?;
     words::insert(list, s.len, fit.place, rule.0);
-    Ok(fit.trees)
+    Ok(Trees {
+        count: fit.trees.count,
+        len: fit.trees.len,
+    })
 }
 
 // The reduces of an edge, in order: the first that fails decides. The list's tail is moved once.

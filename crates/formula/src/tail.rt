@@ -65,7 +65,10 @@ fn plan(
     for (k, d) in reduces.iter().enumerate() {
         let fit = sizes::measure(book, room, work, out, d.rule, d.offset)?;
         put(entries, k, fit.place, d.rule);
-        out = fit.trees;
+        out = Trees {
+            count: fit.trees.count,
+            len: fit.trees.len,
+        };
     }
     Ok(out)
 }

@@ -30,11 +30,16 @@ fn allowance(tokens: &[u32]) -> u32 {
 }
 
 impl Grammar<'_> {
-    // Says the answer to statement `k`.
-    fn answer<P: Print>(&self, rt: &P, k: usize, tokens: &[u32]) -> io::Result<()> {
-        let mut frames = [0u32; text::MOST];
-        let mut list = [0u32; text::MOST];
-        let mut work = [0u32; text::MOST];
+    // Says the answer to statement `k`. Its slices are lent by the caller, one after another: to fill them anew for each costs more than most parses.
+    fn answer<P: Print>(
+        &self,
+        rt: &P,
+        k: usize,
+        tokens: &[u32],
+        frames: &mut [u32],
+        list: &mut [u32],
+        work: &mut [u32],
+    ) -> io::Result<()> {
         let a = desk::parse(
             self.codes,
             self.rules,
@@ -42,15 +47,15 @@ impl Grammar<'_> {
             self.edges,
             tokens,
             allowance(tokens),
-            &mut frames,
-            &mut list,
-            &mut work,
+            frames,
+            list,
+            work,
         );
         print!(rt;
             "statement {k}: number {}, place {}, passes {}, list",
             a.number, a.place, a.passes
         )?;
-        for x in front(&list, a.length as usize) {
+        for x in front(list, a.length as usize) {
             print!(rt; " {x}")?;
         }
         println!(rt; ": {}", Outcome(a.number))
@@ -105,8 +110,11 @@ fn tree<P: Print>(
         nodes: front(&nodes, m.nodes as usize),
         edges: front(&edges, words::ROW_WIDTH * (m.edges as usize)),
     };
+    let mut frames = [0u32; text::MOST];
+    let mut list = [0u32; text::MOST];
+    let mut work = [0u32; text::MOST];
     for (k, tokens) in all.enumerate() {
-        grammar.answer(rt, k, tokens)?;
+        grammar.answer(rt, k, tokens, &mut frames, &mut list, &mut work)?;
     }
     Ok(())
 }

@@ -1,4 +1,5 @@
-// Edges that are followed.
+// Edges that are followed. The answer of a large function is taken by a local before it is returned, here and in a pass at a leaf. Without that it is
+// written where the caller's own answers go, which then lie in memory too, and a pass waits for them.
 ghost use Rattle.std.specs.Prelude.{◌≡◌, ◌/◌, ◌≤◌, ◌<◌, length};
 ghost use Rattle.words.specs.Limits.{row_width, most_reduces};
 ghost use Rattle.rows.specs.Rows.{edge_of};
@@ -47,7 +48,8 @@ pub fn follow(
         result list.new work.new }
 {
     if rows::has_reduces(g.edges, row) {
-        return follow_reducing(g, row, p, list, work);
+        let followed = follow_reducing(g, row, p, list, work);
+        return followed;
     }
     Ok(Step::On(At {
         node: rows::end_of(g.edges, row),

@@ -77,11 +77,15 @@ fn unwanted(
         result list.new work.new t.0 }
 {
     if p.at.token < tokens.len() {
-        return root_step(g, t, p, list, work);
+        let stepped = root_step(g, t, p, list, work);
+        return stepped;
     }
     match wanted::conversion(g, p.wish, t) {
         Some(k) => convert(g, tokens, p, k, list, work),
-        None => root_step(g, t, p, list, work),
+        None => {
+            let stepped = root_step(g, t, p, list, work);
+            stepped
+        }
     }
 }
 
@@ -99,12 +103,14 @@ fn at_bottom(
         result list.new work.new t.0 }
 {
     if t != p.goal {
-        return unwanted(g, tokens, p, t, list, work);
+        let closed = unwanted(g, tokens, p, t, list, work);
+        return closed;
     }
     if tokens.len() <= p.at.token {
         return finish(g, tokens, p, list, work);
     }
-    root_step(g, t, p, list, work)
+    let stepped = root_step(g, t, p, list, work);
+    stepped
 }
 
 // Wanted by a frame, it is popped and its edge followed.
@@ -121,10 +127,12 @@ fn complete(
         result list.new work.new t.0 }
 {
     let Wish::Frame(top) = p.wish else {
-        return at_bottom(g, tokens, p, t, list, work);
+        let completed = at_bottom(g, tokens, p, t, list, work);
+        return completed;
     };
     let Some(row) = rows::row_of(g.edges, g.firsts, slot_key(top, t)) else {
-        return unwanted(g, tokens, p, t, list, work);
+        let closed = unwanted(g, tokens, p, t, list, work);
+        return closed;
     };
     edge::follow(g, row, p.popped(), list, work)
 }

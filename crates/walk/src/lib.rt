@@ -17,7 +17,7 @@ ghost use Rattle.rows.specs.Rows.{tables_good};
 ghost use Rattle.walk.specs.Walk.{wanted_of, walk};
 ghost use Rattle.walk.specs.Code.{stand_at, under, with_trees, room_of, tables, answer_of, Answers};
 
-use refusal::Why;
+pub use refusal::Why;
 pub use tables::Grammar;
 use words::Refusal;
 

@@ -22,7 +22,7 @@ impl Why {
     ghost use Rattle.walk.specs.Code.{answer_of};
 
     // What a walk is refused with after so many passes.
-    pub fn halted(self, passes: u32) -> Halted
+    pub(super) fn halted(self, passes: u32) -> Halted
         ensures { answer_of (Err result) ≡ record { number = number (why_of self); place = place (why_of self); length = 0; passes = passes } }
     {
         Halted {

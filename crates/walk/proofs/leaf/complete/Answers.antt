@@ -5,7 +5,7 @@ pub returns-in_default-row_of : goal.returns-in_default-row_of
 returns-in_default-row_of c =
     let a = c.args in
     pop-none a.g.now.book.rules.now a.g.now.edges.now a.tokens.now a.p a.list.now a.work.now a.t.0
-    c.in-Frame.top c.in-Frame.is (rw c.slot_key.ensures at c.row_of.ensures) c.in_default-row_of.is c.unwanted.ensures
+    c.in-Frame.top c.in-Frame.is (rw c.slot_key.ensures at c.row_of.ensures) c.in_default-row_of.is c.unwanted-closed.ensures
 
 pub follow-requires : goal.follow-requires
 follow-requires c =
