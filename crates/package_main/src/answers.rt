@@ -30,7 +30,8 @@ fn allowance(tokens: &[u32]) -> u32 {
 }
 
 impl Grammar<'_> {
-    // Says the answer to statement `k`. Its slices are lent by the caller, one after another: to fill them anew for each costs more than most parses.
+    // Says the answer to statement `k`. The slices are the caller's, the same for every statement: to make them anew for each costs more than
+    // most parses.
     fn answer<P: Print>(
         &self,
         rt: &P,
